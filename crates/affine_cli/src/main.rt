@@ -1,0 +1,35 @@
+//! The program `affine`: its words, standard input and output go to the top call, its message to standard error, and its
+//! ending becomes the exit status.
+#![tactic(auto)]
+
+use affine_driver::{Ending, stage_main};
+use affine_io::{StdSink, StdSource};
+use std::alloc::AllocError;
+use std::process::ExitCode;
+use std::{env, io};
+
+/// The words behind the program's name. Words that are no text ask for no command.
+fn answer(rt: &HostRuntime) -> Result<Ending, AllocError> {
+    let Ok(args) = env::args(rt) else {
+        return Ok(Ending::Words);
+    };
+    let owned: Vec<String> = args.collect(rt.alloc())?;
+    let mut words: Vec<&str> = Vec::new(rt.alloc());
+    for word in owned.iter().skip(1) {
+        words.push(word.as_str())?;
+    }
+    let mut source = StdSource::new(rt.reader());
+    let mut sink = StdSink::new(io::writer(rt));
+    Ok(stage_main(rt.alloc(), words.as_slice(), &mut source, &mut sink))
+}
+
+fn main(rt: HostRuntime) -> ExitCode {
+    let ending = match answer(&rt) {
+        Ok(ending) => ending,
+        Err(AllocError) => Ending::Memory,
+    };
+    if !matches!(ending, Ending::Done) {
+        let _ = eprintln!(rt; "{ending}");
+    }
+    ExitCode::from(ending.status())
+}

@@ -1,0 +1,12 @@
+//! The top call: from words, a source and a sink to an ending.
+//!
+//! `stage_main` does all that the program does today. Its clauses say which ending comes when, what was read and what was
+//! written. It stands on the parser, the printer, the first path and `affine_io`.
+#![tactic(auto)]
+
+mod ending;
+mod report;
+mod top;
+
+pub use ending::Ending;
+pub use top::{SOURCE_LIMIT, stage_main};

@@ -1,0 +1,10 @@
+pub mod Facts
+pub mod Front
+pub mod Gaps
+pub mod Growth
+pub mod Listed
+pub mod Places
+pub mod Runs
+pub mod Shapes
+pub mod Tests
+pub mod Written

@@ -1,0 +1,10 @@
+use Rattle.std.proofs.Common.{ℕ}
+use Rattle.std.specs.Int.{IsGcd}
+use Rattle.num_row.proofs.gcd.Given as goal
+
+-- what divides both of the pair as it stands divides both of the arguments, and the other way round
+abbrev pub invariant-loop-rest : goal.invariant-loop-rest
+invariant-loop-rest l = (g : ℕ) → IsGcd l.divisor l.rest g → IsGcd l.fn.a l.fn.b g
+
+abbrev pub decreases-loop-rest : goal.decreases-loop-rest
+decreases-loop-rest l = l.rest
