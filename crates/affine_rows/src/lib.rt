@@ -1,0 +1,11 @@
+//! Tests of the layers, and nothing else: each public call once on its happy path, and values from outside as tables.
+#![tactic(auto)]
+
+#[cfg(test)]
+mod numbers;
+#[cfg(test)]
+mod operations;
+#[cfg(test)]
+mod streams;
+#[cfg(test)]
+mod texts;
