@@ -1,0 +1,13 @@
+pub mod Every
+pub mod Moved
+pub mod Copies
+pub mod Redirected
+pub mod Boxes
+pub mod Args
+pub mod CopyActions
+pub mod Wrapped
+pub mod Staged
+pub mod Theorem
+pub mod FirstPlans
+pub mod FirstTotals
+pub mod FirstStaged

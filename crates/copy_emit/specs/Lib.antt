@@ -1,0 +1,4 @@
+pub mod Template
+pub mod FirstForm
+pub mod Law
+pub mod FirstPlan

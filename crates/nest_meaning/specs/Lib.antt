@@ -1,0 +1,9 @@
+pub mod Turns
+pub mod Transfers
+pub mod Action
+pub mod Static
+pub mod Actions
+pub mod Memory
+pub mod Direct
+pub mod Work
+pub mod Bounded

@@ -1,0 +1,97 @@
+-- The work of a module: a bound on the number of its actions, from the text alone.
+use Rattle.std.specs.Prelude.{ℕ, zero, suc, ◌+◌, ◌*◌, ◌^◌, min, max, ℤ, pos, ◌+ℤ◌, ◌-ℤ◌, List, [], ◌∷◌, map, take, drop, fold, Option, Some, None, slice_index_or}
+use Rattle.std.specs.Int.{int_min, int_max}
+use Rattle.affine_expr.specs.Value.{ceil_div}
+use Rattle.affine_expr.specs.Spread.{Range, only, range_of}
+use Rattle.affine_ast.specs.declared.name.Name.{Name}
+use Rattle.affine_ast.specs.declared.module.Arg.{Arg}
+use Rattle.affine_ast.specs.declared.module.ArgKind.{ArgKind}
+use Rattle.affine_ast.specs.declared.module.ArgKind.TheVariants.{Memref, Index}
+use Rattle.affine_ast.specs.declared.module.Module.{Module}
+use Rattle.affine_ast.specs.declared.types.Access.{Access}
+use Rattle.affine_ast.specs.declared.types.Bound.{Bound}
+use Rattle.affine_ast.specs.declared.types.Bound.TheVariants as bound
+use Rattle.affine_ast.specs.declared.types.Pick.{Pick}
+use Rattle.affine_ast.specs.declared.types.Pick.TheVariants.{Apply, Min, Max}
+use Rattle.affine_ast.specs.declared.types.Scalar.{Scalar}
+use Rattle.affine_ast.specs.declared.types.Scalar.TheVariants as scalar
+use Rattle.affine_ast.specs.Names.{put}
+use Rattle.affine_ast.specs.Nest.{Plain, Nest, Nothing, Loop, Branch, Does, Value, Load, Store, RawLoad, RawStore, Constant, Binary, Cast, Alloc, Dealloc, Start, Wait, Return, nest}
+use Rattle.nest_meaning.specs.Turns.{gap}
+use Rattle.nest_meaning.specs.Memory.{range_or}
+
+-- the range of each name that has a number
+abbrev pub Ranges : Type 0
+Ranges = Name → Range
+
+abbrev pub ranges_at : Ranges → Access → List Range
+ranges_at rho at = map (range_of (take at.map.dims (map rho at.operands)) (drop at.map.dims (map rho at.operands))) at.map.results
+
+abbrev pub over_all : (ℤ → ℤ → ℤ) → List ℤ → ℤ
+over_all choose [] = pos 0
+over_all choose (z ∷ zs) = fold choose z zs
+
+-- the least, or the greatest, of the least and of the greatest values
+abbrev pub pick_range : (ℤ → ℤ → ℤ) → List Range → Range
+pick_range choose rs = record { least = over_all choose (map (λ r. r.least) rs); greatest = over_all choose (map (λ r. r.greatest) rs) }
+
+abbrev pub picked_range : Pick → List Range → Range
+picked_range Apply rs = slice_index_or rs 0 (only (pos 0))
+picked_range Min rs = pick_range int_min rs
+picked_range Max rs = pick_range int_max rs
+
+-- the greatest of the lower results' least values
+unfoldable pub first_turn : Ranges → Bound → ℤ
+first_turn rho (bound.Int z) = z
+first_turn rho (bound.Value n) = (rho n).least
+first_turn rho (bound.Map at) = over_all int_max (map (λ r. r.least) (ranges_at rho at))
+
+-- the least of the upper results' greatest values
+unfoldable pub last_end : Ranges → Bound → ℤ
+last_end rho (bound.Int z) = z
+last_end rho (bound.Value n) = (rho n).greatest
+last_end rho (bound.Map at) = over_all int_min (map (λ r. r.greatest) (ranges_at rho at))
+
+-- a loop variable between these
+abbrev pub turn_range : ℤ → ℤ → Range
+turn_range a b = record { least = a; greatest = int_max a (b -ℤ pos 1) }
+
+-- how many turns: max(0, ceil((b - a) / step))
+abbrev pub turn_count : ℤ → ℤ → ℤ → ℕ
+turn_count a b step = gap (ceil_div (b -ℤ a) step)
+
+abbrev pub ranges_after_constant : Name → ℤ → Scalar → Ranges → Ranges
+ranges_after_constant r z (scalar.Int element) rho = rho
+ranges_after_constant r z scalar.Index rho = put rho r (only z)
+
+abbrev pub ranges_after : Plain → Ranges → Ranges
+ranges_after (Value r pick at) rho = put rho r (picked_range pick (ranges_at rho at))
+ranges_after (Constant r z ty) rho = ranges_after_constant r z ty rho
+ranges_after p rho = rho
+
+-- one for a plain statement, and the count and three for a start
+abbrev pub plain_work : Plain → Ranges → ℕ
+plain_work (Start a a_at b b_at t t_at n stride types) rho = gap (rho n).greatest + 3
+plain_work p rho = 1
+
+-- the work of statements, not yet saturated
+unfoldable pub full_work : Nest → Ranges → ℕ
+full_work Nothing rho = 0
+full_work (Loop line v l u s body rest) rho =
+    turn_count (first_turn rho l) (last_end rho u) s * max 1 (full_work body (put rho v (turn_range (first_turn rho l) (last_end rho u)))) + full_work rest rho
+full_work (Branch line set names first has other rest) rho = full_work first rho + full_work other rho + full_work rest rho
+full_work (Does line p rest) rho = plain_work p rho + full_work rest (ranges_after p rho)
+
+abbrev pub arg_ranges : Ranges → Arg → Ranges
+arg_ranges rho arg = ranges_of_kind arg.kind
+  where
+  ranges_of_kind : ArgKind → Ranges
+  ranges_of_kind (Memref ty) = rho
+  ranges_of_kind (Index range) = put rho arg.name (record { least = (range_or range).least; greatest = (range_or range).greatest })
+
+abbrev pub start_ranges : List Arg → Ranges
+start_ranges args = fold arg_ranges (λ n. only (pos 0)) args
+
+-- the work of a module, saturating at 2 ^ 127
+unfoldable pub work : Module → ℕ
+work m = min (full_work (nest m.body) (start_ranges m.args)) (2 ^ 127)
