@@ -1,2 +1,3 @@
 pub mod Names
 pub mod Nest
+pub mod Spelling

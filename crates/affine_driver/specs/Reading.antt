@@ -3,6 +3,7 @@ use Rattle.std.specs.Prelude.{◌≡◌, ◌↔◌, ℕ, ◌<◌, ◌≤◌, Lis
 use Rattle.std.specs.Io.KnownBytes.{Appends, Consumes, IsAtEnd}
 use Rattle.affine_driver.specs.declared.ending.Ending.{Ending}
 use Rattle.affine_driver.specs.declared.ending.Ending.TheVariants.{Done, Words, ReadFault, TooLong, Unbuilt, WriteFault, Memory}
+use Rattle.affine_driver.specs.Output.{IsOutput}
 
 -- the words ask to stage a module, and for nothing else
 abbrev pub IsStage : List (List ℕ) → Type 0
@@ -36,14 +37,16 @@ pub record Reads (limit : ℕ) (ending : Ending) (before now : Option (List ℕ)
   pub over : (ending ≡ TooLong) ↔ (limit < length bytes)
   pub whole : ComesAfterReading ending → IsAtEnd now
 
--- this output went out whole
+-- the whole output of a text went out
 pub record WritesWhole (before now : Option (List ℕ)) : Type 0 where
   pub output : List ℕ
+  pub is : IsOutput output
   pub went : Appends before now output
 
--- a prefix of this output went out, and not all of it
+-- a prefix of the output of a text went out, and not all of it
 pub record WritesPart (before now : Option (List ℕ)) : Type 0 where
   pub output : List ℕ
+  pub is : IsOutput output
   pub count : ℕ
   pub short : count < length output
   pub went : Appends before now (take count output)

@@ -1,69 +1,90 @@
 // The report of a plan.
-use affine_ast::{Arg, ArgKind};
-use first_path::{Placement, Staged};
+ghost use Rattle.std.specs.Prelude.{◌≡◌, ◌++◌, ◌*◌, OnOk};
+ghost use Rattle.std.specs.Fmt.{decimal};
+ghost use Rattle.affine_ast.specs.Spelling.{name_text};
+ghost use Rattle.affine_driver.specs.Output.{subject_text, amount_text, directions_text, report_line, report};
+
+use affine_ast::Name;
+use first_path::Placement;
 use std::alloc::{AllocError, Global};
 
-fn put(out: &mut Vec<u8>, text: &[u8]) -> Result<(), AllocError> {
+fn put(out: &mut Vec<u8>, text: &[u8]) -> Result<(), AllocError>
+    ensures { OnOk result (out.new.items ≡ out.old.items ++ text.now) }
+{
     out.extend_from_slice(text)
 }
 
-fn put_number(alloc: Global, out: &mut Vec<u8>, number: u64) -> Result<(), AllocError> {
+fn put_number(alloc: Global, out: &mut Vec<u8>, number: u64) -> Result<(), AllocError>
+    ensures { OnOk result (out.new.items ≡ out.old.items ++ decimal number) }
+{
     let text = number.to_string(alloc)?;
     put(out, text.as_bytes())
 }
 
-/// The bytes of a memref of `i32` of one dimension.
-fn bytes_of(arg: &Arg) -> u64 {
-    match &arg.kind {
-        ArgKind::Memref(ty) => match ty.sizes.as_slice() {
-            [size] => 4 * (*size as u64),
-            _ => 0,
-        },
-        ArgKind::Index(_) => 0,
+#[tactic(auto, unfolding(affine_ast::specs::Spelling::name_text))]
+fn put_name(out: &mut Vec<u8>, name: &Name) -> Result<(), AllocError>
+    ensures { OnOk result (out.new.items ≡ out.old.items ++ name_text name.now) }
+{
+    put(out, b"%")?;
+    put(out, name.text.as_str().as_bytes())
+}
+
+/// The block's line and the memref.
+#[tactic(auto, unfolding(crate::specs::Output::subject_text))]
+fn put_subject(alloc: Global, out: &mut Vec<u8>, line: u32, memref: &Name) -> Result<(), AllocError>
+    ensures { OnOk result (out.new.items ≡ out.old.items ++ subject_text line memref.now) }
+{
+    put(out, b"// block 0 line ")?;
+    put_number(alloc, out, line as u64)?;
+    put(out, b" ")?;
+    put_name(out, memref)
+}
+
+/// The bytes of a fast memref of this many elements of `i32`.
+#[tactic(auto, unfolding(crate::specs::Output::amount_text))]
+fn put_amount(alloc: Global, out: &mut Vec<u8>, size: u32) -> Result<(), AllocError>
+    ensures { OnOk result (out.new.items ≡ out.old.items ++ amount_text size) }
+{
+    put(out, b": staged ")?;
+    put_number(alloc, out, 4 * (size as u64))?;
+    put(out, b" bytes at depth 0, ")
+}
+
+fn put_directions(out: &mut Vec<u8>, writes: bool) -> Result<(), AllocError>
+    ensures { OnOk result (out.new.items ≡ out.old.items ++ directions_text writes) }
+{
+    if writes {
+        put(out, b"in out\n")
+    } else {
+        put(out, b"in\n")
     }
 }
 
-/// The line of one placement: its block's line, its memref, its bytes, and in which directions it is copied.
+#[tactic(auto, unfolding(crate::specs::Output::report_line))]
 fn put_line(
     alloc: Global,
     out: &mut Vec<u8>,
     line: u32,
-    arg: &Arg,
-    writes: bool,
-) -> Result<(), AllocError> {
-    put(out, b"// block 0 line ")?;
-    put_number(alloc, out, line as u64)?;
-    put(out, b" %")?;
-    put(out, arg.name.text.as_str().as_bytes())?;
-    put(out, b": staged ")?;
-    put_number(alloc, out, bytes_of(arg))?;
-    put(out, b" bytes at depth 0, in")?;
-    put(out, if writes { b" out\n" } else { b"\n" })
+    placed: &Placement,
+) -> Result<(), AllocError>
+    ensures { OnOk result (out.new.items ≡ out.old.items ++ report_line line placed.now) }
+{
+    put_subject(alloc, out, line, &placed.memref)?;
+    put_amount(alloc, out, placed.size)?;
+    put_directions(out, placed.writes)
 }
 
-fn put_placement(
+/// The report lines of placements, in plan order.
+pub fn put_report(
     alloc: Global,
     out: &mut Vec<u8>,
     line: u32,
-    args: &[Arg],
-    placed: Placement,
-) -> Result<(), AllocError> {
-    match args.get(placed.argument) {
-        Some(arg) => put_line(alloc, out, line, arg, placed.writes),
-        None => Ok(()),
-    }
-}
-
-/// The report lines of a staged module, in plan order.
-pub fn put_report(alloc: Global, out: &mut Vec<u8>, staged: &Staged) -> Result<(), AllocError> {
-    for placed in staged.placements.as_slice() {
-        put_placement(
-            alloc,
-            out,
-            staged.line,
-            staged.module.args.as_slice(),
-            *placed,
-        )?;
+    placements: &[Placement],
+) -> Result<(), AllocError>
+    ensures { OnOk result (out.new.items ≡ out.old.items ++ report line placements.now) }
+{
+    for placed in placements {
+        put_line(alloc, out, line, placed)?;
     }
     Ok(())
 }

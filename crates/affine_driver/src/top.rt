@@ -1,6 +1,8 @@
 // The top call.
-ghost use Rattle.std.specs.Prelude.{◌≡◌, ◌↔◌, ◌≤◌, length, map, true};
+ghost use Rattle.std.specs.Prelude.{◌≡◌, ◌↔◌, ◌≤◌, ◌++◌, length, map, true, IfOk, IfSome};
 ghost use Rattle.affine_io.specs.Faults.{Rose};
+ghost use Rattle.affine_ast.specs.Spelling.{spelling};
+ghost use Rattle.affine_driver.specs.Output.{report, IsOutput};
 ghost use Rattle.affine_driver.specs.Reading.{IsStage, Reads, WritesWhole, WritesPart, ComesBeforeWriting};
 
 use crate::ending::Ending;
@@ -8,7 +10,7 @@ use crate::report::put_report;
 use affine_io::{ReadStop, Sink, Source, read_all, write_all};
 use affine_print::print;
 use affine_text::{ParseFault, parse};
-use first_path::stage_first;
+use first_path::{Staged, stage_first};
 use std::alloc::{AllocError, Global};
 
 /// The most bytes of a source.
@@ -24,9 +26,21 @@ fn asks_to_stage(words: &[&str]) -> bool
     }
 }
 
+/// Report and printed spelling of a staged module.
+fn output_of(alloc: Global, staged: &Staged) -> Result<Vec<u8>, AllocError>
+    ensures { IfOk result (λ output. output.items ≡ report staged.now.line staged.now.placements ++ spelling staged.now.«module») }
+{
+    let mut out = Vec::new(alloc);
+    put_report(alloc, &mut out, staged.line, staged.placements.as_slice())?;
+    let printed = print(alloc, &staged.module)?;
+    out.extend_from_slice(printed.as_slice())?;
+    Ok(out)
+}
+
 /// Report and staged module of a text, where it is a module of the first form.
 fn staged_text(alloc: Global, text: &[u8]) -> Result<Option<Vec<u8>>, AllocError>
     requires { length text.now ≤ SOURCE_LIMIT }
+    ensures { IfOk result (λ found. IfSome found (λ output. IsOutput output.items)) }
 {
     let module = match parse(alloc, text) {
         Ok(module) => module,
@@ -36,11 +50,8 @@ fn staged_text(alloc: Global, text: &[u8]) -> Result<Option<Vec<u8>>, AllocError
     let Some(staged) = stage_first(alloc, &module)? else {
         return Ok(None);
     };
-    let mut out = Vec::new(alloc);
-    put_report(alloc, &mut out, &staged)?;
-    let printed = print(alloc, &staged.module)?;
-    out.extend_from_slice(printed.as_slice())?;
-    Ok(Some(out))
+    let output = output_of(alloc, &staged)?;
+    Ok(Some(output))
 }
 
 /// Reads a text from the source and writes its report and staged module to the sink.

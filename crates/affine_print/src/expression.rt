@@ -1,5 +1,9 @@
 // Affine expressions.
-use crate::piece::{put, put_name, put_signed, put_unsigned};
+ghost use Rattle.std.specs.Prelude.{◌≡◌, ◌++◌, OnOk, codes, slice_get};
+ghost use Rattle.affine_ast.specs.Spelling.{operand_text, as_literal, as_sum, as_product, sum_text, product_text, texts, listed, expression_text};
+ghost use Rattle.affine_print.specs.Places.{leaves_of, text_at};
+
+use crate::piece::{put, put_comma, put_name, put_signed, put_unsigned};
 use affine_ast::Name;
 use affine_expr::Expr;
 use std::alloc::{AllocError, Global};
@@ -27,7 +31,10 @@ pub enum Place {
 }
 
 /// The operand of this number, where there is one.
-fn put_operand(out: &mut Vec<u8>, operands: &[Name], number: usize) -> Result<(), AllocError> {
+#[tactic(auto, unfolding(affine_ast::specs::Spelling::operand_text))]
+fn put_operand(out: &mut Vec<u8>, operands: &[Name], number: usize) -> Result<(), AllocError>
+    ensures { OnOk result (out.new.items ≡ out.old.items ++ operand_text (slice_get operands.now number)) }
+{
     match operands.get(number) {
         Some(name) => put_name(out, name),
         None => Ok(()),
@@ -39,7 +46,9 @@ fn put_dimension(
     out: &mut Vec<u8>,
     leaves: Leaves<'_>,
     number: u32,
-) -> Result<(), AllocError> {
+) -> Result<(), AllocError>
+    ensures { OnOk result (out.new.items ≡ out.old.items ++ (leaves_of leaves.entry).dimension number) }
+{
     match leaves {
         Leaves::Numbered => {
             put(out, b"d")?;
@@ -54,7 +63,9 @@ fn put_symbol(
     out: &mut Vec<u8>,
     leaves: Leaves<'_>,
     number: u32,
-) -> Result<(), AllocError> {
+) -> Result<(), AllocError>
+    ensures { OnOk result (out.new.items ≡ out.old.items ++ (leaves_of leaves.entry).symbol number) }
+{
     match leaves {
         Leaves::Numbered => {
             put(out, b"s")?;
@@ -68,108 +79,191 @@ fn put_symbol(
     }
 }
 
-fn put_literal(
+fn put_literal(alloc: Global, out: &mut Vec<u8>, value: i64, place: Place) -> Result<(), AllocError>
+    ensures { OnOk result (out.new.items ≡ out.old.items ++ text_at place (as_literal value)) }
+{
+    if value >= 0 && matches!(place, Place::Negated) {
+        put(out, b"(")?;
+        put_signed(alloc, out, value)?;
+        put(out, b")")
+    } else {
+        put_signed(alloc, out, value)
+    }
+}
+
+/// A sum or a difference without parentheses round it.
+#[cycle(expressions)]
+#[tactic(auto, unfolding(affine_ast::specs::Spelling::sum_text))]
+fn put_sum(
     alloc: Global,
     out: &mut Vec<u8>,
-    value: i64,
+    leaves: Leaves<'_>,
+    left: &Expr,
+    sign: &[u8],
+    right: &Expr,
+) -> Result<(), AllocError>
+    ensures { OnOk result (out.new.items ≡ out.old.items ++ sum_text (texts (leaves_of leaves.entry) left.now) sign.now (texts (leaves_of leaves.entry) right.now)) }
+{
+    put_expr(alloc, out, leaves, left, Place::Sum)?;
+    put(out, sign)?;
+    put_expr(alloc, out, leaves, right, Place::Product)
+}
+
+#[cycle(expressions)]
+fn put_sum_at(
+    alloc: Global,
+    out: &mut Vec<u8>,
+    leaves: Leaves<'_>,
+    left: &Expr,
+    sign: &[u8],
+    right: &Expr,
     place: Place,
-) -> Result<(), AllocError> {
-    let is_joined = matches!(place, Place::Negated) && value >= 0;
-    if !is_joined {
-        return put_signed(alloc, out, value);
-    }
-    put(out, b"(")?;
-    put_signed(alloc, out, value)?;
-    put(out, b")")
-}
-
-/// The sign of an operator of two sides, with its blanks.
-fn operator_of(expr: &Expr) -> &'static [u8] {
-    match expr {
-        Expr::Add(_, _) => b" + ",
-        Expr::Sub(_, _) => b" - ",
-        Expr::Mul(_, _) => b" * ",
-        Expr::FloorDiv(_, _) => b" floordiv ",
-        Expr::CeilDiv(_, _) => b" ceildiv ",
-        Expr::Mod(_, _) => b" mod ",
-        Expr::Dim(_) | Expr::Sym(_) | Expr::Const(_) | Expr::Neg(_) => b"",
-    }
-}
-
-/// Whether an expression needs parentheses at a place.
-fn needs_parentheses(expr: &Expr, place: Place) -> bool {
-    match expr {
-        Expr::Add(_, _) | Expr::Sub(_, _) => !matches!(place, Place::Sum),
-        Expr::Mul(_, _) | Expr::FloorDiv(_, _) | Expr::CeilDiv(_, _) | Expr::Mod(_, _) => {
-            matches!(place, Place::Unary | Place::Negated)
+) -> Result<(), AllocError>
+    ensures { OnOk result (out.new.items ≡ out.old.items ++ text_at place (as_sum (sum_text (texts (leaves_of leaves.entry) left.now) sign.now (texts (leaves_of leaves.entry) right.now)))) }
+{
+    match place {
+        Place::Sum => put_sum(alloc, out, leaves, left, sign, right),
+        Place::Product | Place::Unary | Place::Negated => {
+            put(out, b"(")?;
+            put_sum(alloc, out, leaves, left, sign, right)?;
+            put(out, b")")
         }
-        Expr::Dim(_) | Expr::Sym(_) | Expr::Const(_) | Expr::Neg(_) => false,
     }
+}
+
+/// A product or a division without parentheses round it.
+#[cycle(expressions)]
+#[tactic(auto, unfolding(affine_ast::specs::Spelling::product_text))]
+fn put_product(
+    alloc: Global,
+    out: &mut Vec<u8>,
+    leaves: Leaves<'_>,
+    left: &Expr,
+    sign: &[u8],
+    right: &Expr,
+) -> Result<(), AllocError>
+    ensures { OnOk result (out.new.items ≡ out.old.items ++ product_text (texts (leaves_of leaves.entry) left.now) sign.now (texts (leaves_of leaves.entry) right.now)) }
+{
+    put_expr(alloc, out, leaves, left, Place::Product)?;
+    put(out, sign)?;
+    put_expr(alloc, out, leaves, right, Place::Unary)
+}
+
+#[cycle(expressions)]
+fn put_product_at(
+    alloc: Global,
+    out: &mut Vec<u8>,
+    leaves: Leaves<'_>,
+    left: &Expr,
+    sign: &[u8],
+    right: &Expr,
+    place: Place,
+) -> Result<(), AllocError>
+    ensures { OnOk result (out.new.items ≡ out.old.items ++ text_at place (as_product (product_text (texts (leaves_of leaves.entry) left.now) sign.now (texts (leaves_of leaves.entry) right.now)))) }
+{
+    match place {
+        Place::Sum | Place::Product => put_product(alloc, out, leaves, left, sign, right),
+        Place::Unary | Place::Negated => {
+            put(out, b"(")?;
+            put_product(alloc, out, leaves, left, sign, right)?;
+            put(out, b")")
+        }
+    }
+}
+
+/// A negation: it needs no parentheses anywhere.
+#[cycle(expressions)]
+fn put_negation(
+    alloc: Global,
+    out: &mut Vec<u8>,
+    leaves: Leaves<'_>,
+    part: &Expr,
+) -> Result<(), AllocError>
+    ensures { OnOk result (out.new.items ≡ out.old.items ++ (codes "-" ++ (texts (leaves_of leaves.entry) part.now).negated)) }
+{
+    put(out, b"-")?;
+    put_expr(alloc, out, leaves, part, Place::Negated)
 }
 
 /// An expression at a place, with no more parentheses than its tree needs.
 #[cycle(expressions)]
-pub fn put_expr(
+#[tactic(auto, using(affine_ast::proofs::Spellings::expression_texts, crate::proofs::Pieces::unary_at))]
+fn put_expr(
     alloc: Global,
     out: &mut Vec<u8>,
     leaves: Leaves<'_>,
     expr: &Expr,
     place: Place,
-) -> Result<(), AllocError> {
-    if needs_parentheses(expr, place) {
-        put(out, b"(")?;
-        put_bare(alloc, out, leaves, expr, place)?;
-        put(out, b")")
-    } else {
-        put_bare(alloc, out, leaves, expr, place)
-    }
-}
-
-/// An expression without parentheses of its own.
-#[cycle(expressions)]
-fn put_bare(
-    alloc: Global,
-    out: &mut Vec<u8>,
-    leaves: Leaves<'_>,
-    expr: &Expr,
-    place: Place,
-) -> Result<(), AllocError> {
+) -> Result<(), AllocError>
+    ensures { OnOk result (out.new.items ≡ out.old.items ++ text_at place (texts (leaves_of leaves.entry) expr.now)) }
+{
     match expr {
         Expr::Dim(number) => put_dimension(alloc, out, leaves, *number),
         Expr::Sym(number) => put_symbol(alloc, out, leaves, *number),
         Expr::Const(value) => put_literal(alloc, out, *value, place),
-        Expr::Neg(part) => {
-            put(out, b"-")?;
-            put_expr(alloc, out, leaves, part.get(), Place::Negated)
+        Expr::Neg(part) => put_negation(alloc, out, leaves, part.get()),
+        Expr::Add(left, right) => {
+            put_sum_at(alloc, out, leaves, left.get(), b" + ", right.get(), place)
         }
-        Expr::Add(left, right) | Expr::Sub(left, right) => {
-            put_expr(alloc, out, leaves, left.get(), Place::Sum)?;
-            put(out, operator_of(expr))?;
-            put_expr(alloc, out, leaves, right.get(), Place::Product)
+        Expr::Sub(left, right) => {
+            put_sum_at(alloc, out, leaves, left.get(), b" - ", right.get(), place)
         }
-        Expr::Mul(left, right)
-        | Expr::FloorDiv(left, right)
-        | Expr::CeilDiv(left, right)
-        | Expr::Mod(left, right) => {
-            put_expr(alloc, out, leaves, left.get(), Place::Product)?;
-            put(out, operator_of(expr))?;
-            put_expr(alloc, out, leaves, right.get(), Place::Unary)
+        Expr::Mul(left, right) => {
+            put_product_at(alloc, out, leaves, left.get(), b" * ", right.get(), place)
+        }
+        Expr::FloorDiv(left, right) => {
+            put_product_at(
+                alloc,
+                out,
+                leaves,
+                left.get(),
+                b" floordiv ",
+                right.get(),
+                place,
+            )
+        }
+        Expr::CeilDiv(left, right) => {
+            put_product_at(
+                alloc,
+                out,
+                leaves,
+                left.get(),
+                b" ceildiv ",
+                right.get(),
+                place,
+            )
+        }
+        Expr::Mod(left, right) => {
+            put_product_at(alloc, out, leaves, left.get(), b" mod ", right.get(), place)
         }
     }
 }
 
+/// An expression by itself.
+#[tactic(auto, unfolding(affine_ast::specs::Spelling::expression_text))]
+pub fn put_expression(
+    alloc: Global,
+    out: &mut Vec<u8>,
+    leaves: Leaves<'_>,
+    expr: &Expr,
+) -> Result<(), AllocError>
+    ensures { OnOk result (out.new.items ≡ out.old.items ++ expression_text (leaves_of leaves.entry) expr.now) }
+{
+    put_expr(alloc, out, leaves, expr, Place::Sum)
+}
+
 /// Expressions, parted by commas.
-pub fn put_exprs(
+pub fn put_expressions(
     alloc: Global,
     out: &mut Vec<u8>,
     leaves: Leaves<'_>,
     exprs: &[Expr],
-) -> Result<(), AllocError> {
+) -> Result<(), AllocError>
+    ensures { OnOk result (out.new.items ≡ out.old.items ++ listed (expression_text (leaves_of leaves.entry)) exprs.now) }
+{
     for (place, expr) in exprs.iter().enumerate() {
-        if place > 0 {
-            put(out, b", ")?;
-        }
-        put_expr(alloc, out, leaves, expr, Place::Sum)?;
+        put_comma(out, place)?;
+        put_expression(alloc, out, leaves, expr)?;
     }
     Ok(())
 }

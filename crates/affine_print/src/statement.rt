@@ -1,283 +1,46 @@
-// Statements.
-use crate::access::{put_bound, put_set, put_subscripts, put_use};
-use crate::piece::{put, put_comma, put_indent, put_name, put_names, put_signed};
-use crate::types::{put_memref, put_scalar, put_typed};
-use affine_ast::{Access, Bound, MemrefType, Name, Pick, Scalar, Stmt, What};
+// Statements and their regions.
+ghost use Rattle.std.specs.Prelude.{◌≡◌, ◌++◌, OnOk, IfOk, true, codes};
+ghost use Rattle.affine_ast.specs.Nest.{nest};
+ghost use Rattle.affine_ast.specs.Spelling.{step_text, bounds_text, for_text, if_text, deeper, block_text, line_text, else_text, lines, statement_text};
+
+use crate::access::{put_bound, put_set};
+use crate::piece::{put, put_signed};
+use crate::plain::{
+    put_alloc, put_binary, put_cast, put_constant, put_dealloc, put_load, put_named, put_raw_load,
+    put_raw_store, put_start, put_store, put_value, put_wait,
+};
+use affine_ast::{Bound, Name, Stmt, What};
 use affine_expr::Set;
-use int_ops::{CastKind, Op};
 use std::alloc::{AllocError, Global};
 
-fn operation_word(op: Op) -> &'static [u8] {
-    match op {
-        Op::Add => b"arith.addi ",
-        Op::Sub => b"arith.subi ",
-        Op::Mul => b"arith.muli ",
-        Op::DivS => b"arith.divsi ",
-        Op::RemS => b"arith.remsi ",
-        Op::DivU => b"arith.divui ",
-        Op::RemU => b"arith.remui ",
-        Op::FloorDivS => b"arith.floordivsi ",
-        Op::CeilDivS => b"arith.ceildivsi ",
-        Op::And => b"arith.andi ",
-        Op::Or => b"arith.ori ",
-        Op::Xor => b"arith.xori ",
-        Op::MaxS => b"arith.maxsi ",
-        Op::MinS => b"arith.minsi ",
-        Op::MaxU => b"arith.maxui ",
-        Op::MinU => b"arith.minui ",
+/// The step of a loop, where it isn't 1.
+#[tactic(auto, unfolding(affine_ast::specs::Spelling::step_text))]
+fn put_step(alloc: Global, out: &mut Vec<u8>, step: i64) -> Result<(), AllocError>
+    ensures { OnOk result (out.new.items ≡ out.old.items ++ step_text step) }
+{
+    if step == 1 {
+        return Ok(());
     }
+    put(out, b" step ")?;
+    put_signed(alloc, out, step)
 }
 
-fn cast_word(kind: CastKind) -> &'static [u8] {
-    match kind {
-        CastKind::Index => b"arith.index_cast ",
-        CastKind::ExtS => b"arith.extsi ",
-        CastKind::ExtU => b"arith.extui ",
-        CastKind::Trunc => b"arith.trunci ",
-    }
-}
-
-fn pick_word(pick: Pick) -> &'static [u8] {
-    match pick {
-        Pick::Apply => b"affine.apply ",
-        Pick::Min => b"affine.min ",
-        Pick::Max => b"affine.max ",
-    }
-}
-
-/// A defined name and ` = `.
-fn put_defined(out: &mut Vec<u8>, name: &Name) -> Result<(), AllocError> {
-    put_name(out, name)?;
-    put(out, b" = ")
-}
-
-fn put_place(
+#[tactic(auto, unfolding(affine_ast::specs::Spelling::bounds_text))]
+fn put_bounds(
     alloc: Global,
     out: &mut Vec<u8>,
-    memref: &Name,
-    at: &Access,
-) -> Result<(), AllocError> {
-    put_name(out, memref)?;
-    put_subscripts(alloc, out, at)
-}
-
-fn put_raw_place(out: &mut Vec<u8>, memref: &Name, at: &[Name]) -> Result<(), AllocError> {
-    put_name(out, memref)?;
-    put(out, b"[")?;
-    put_names(out, at)?;
-    put(out, b"]")
-}
-
-/// ` : ` and the type of a value.
-fn put_scalar_typed(out: &mut Vec<u8>, ty: Scalar) -> Result<(), AllocError> {
-    put(out, b" : ")?;
-    put_scalar(out, ty)
-}
-
-fn put_value(
-    alloc: Global,
-    out: &mut Vec<u8>,
-    defined: &Name,
-    pick: Pick,
-    at: &Access,
-) -> Result<(), AllocError> {
-    put_defined(out, defined)?;
-    put(out, pick_word(pick))?;
-    put_use(alloc, out, at)
-}
-
-fn put_load(
-    alloc: Global,
-    out: &mut Vec<u8>,
-    defined: &Name,
-    memref: &Name,
-    at: &Access,
-    ty: &MemrefType,
-) -> Result<(), AllocError> {
-    put_defined(out, defined)?;
-    put(out, b"affine.load ")?;
-    put_place(alloc, out, memref, at)?;
-    put_typed(alloc, out, ty)
-}
-
-fn put_store(
-    alloc: Global,
-    out: &mut Vec<u8>,
-    value: &Name,
-    memref: &Name,
-    at: &Access,
-    ty: &MemrefType,
-) -> Result<(), AllocError> {
-    put(out, b"affine.store ")?;
-    put_name(out, value)?;
-    put(out, b", ")?;
-    put_place(alloc, out, memref, at)?;
-    put_typed(alloc, out, ty)
-}
-
-fn put_raw_load(
-    alloc: Global,
-    out: &mut Vec<u8>,
-    defined: &Name,
-    memref: &Name,
-    at: &[Name],
-    ty: &MemrefType,
-) -> Result<(), AllocError> {
-    put_defined(out, defined)?;
-    put(out, b"memref.load ")?;
-    put_raw_place(out, memref, at)?;
-    put_typed(alloc, out, ty)
-}
-
-fn put_raw_store(
-    alloc: Global,
-    out: &mut Vec<u8>,
-    value: &Name,
-    memref: &Name,
-    at: &[Name],
-    ty: &MemrefType,
-) -> Result<(), AllocError> {
-    put(out, b"memref.store ")?;
-    put_name(out, value)?;
-    put(out, b", ")?;
-    put_raw_place(out, memref, at)?;
-    put_typed(alloc, out, ty)
-}
-
-fn put_constant(
-    alloc: Global,
-    out: &mut Vec<u8>,
-    defined: &Name,
-    value: i64,
-    ty: Scalar,
-) -> Result<(), AllocError> {
-    put_defined(out, defined)?;
-    put(out, b"arith.constant ")?;
-    put_signed(alloc, out, value)?;
-    put_scalar_typed(out, ty)
-}
-
-fn put_binary(
-    out: &mut Vec<u8>,
-    defined: &Name,
-    op: Op,
-    left: &Name,
-    right: &Name,
-    ty: Scalar,
-) -> Result<(), AllocError> {
-    put_defined(out, defined)?;
-    put(out, operation_word(op))?;
-    put_name(out, left)?;
-    put(out, b", ")?;
-    put_name(out, right)?;
-    put_scalar_typed(out, ty)
-}
-
-fn put_cast(
-    out: &mut Vec<u8>,
-    defined: &Name,
-    kind: CastKind,
-    value: &Name,
-    from: Scalar,
-    to: Scalar,
-) -> Result<(), AllocError> {
-    put_defined(out, defined)?;
-    put(out, cast_word(kind))?;
-    put_name(out, value)?;
-    put_scalar_typed(out, from)?;
+    lower: &Bound,
+    upper: &Bound,
+) -> Result<(), AllocError>
+    ensures { OnOk result (out.new.items ≡ out.old.items ++ bounds_text lower.now upper.now) }
+{
+    put_bound(alloc, out, b"max ", lower)?;
     put(out, b" to ")?;
-    put_scalar(out, to)
+    put_bound(alloc, out, b"min ", upper)
 }
 
-fn put_alloc(
-    alloc: Global,
-    out: &mut Vec<u8>,
-    defined: &Name,
-    ty: &MemrefType,
-) -> Result<(), AllocError> {
-    put_defined(out, defined)?;
-    put(out, b"memref.alloc()")?;
-    put_typed(alloc, out, ty)
-}
-
-fn put_dealloc(
-    alloc: Global,
-    out: &mut Vec<u8>,
-    memref: &Name,
-    ty: &MemrefType,
-) -> Result<(), AllocError> {
-    put(out, b"memref.dealloc ")?;
-    put_name(out, memref)?;
-    put_typed(alloc, out, ty)
-}
-
-/// The stride and the chunk of a transfer, where it has them.
-fn put_stride(out: &mut Vec<u8>, stride: &Option<(Name, Name)>) -> Result<(), AllocError> {
-    match stride {
-        None => Ok(()),
-        Some((stride, chunk)) => {
-            put(out, b", ")?;
-            put_name(out, stride)?;
-            put(out, b", ")?;
-            put_name(out, chunk)
-        }
-    }
-}
-
-fn put_types(alloc: Global, out: &mut Vec<u8>, types: &[MemrefType]) -> Result<(), AllocError> {
-    for (place, ty) in types.iter().enumerate() {
-        put_comma(out, place)?;
-        put_memref(alloc, out, ty)?;
-    }
-    Ok(())
-}
-
-/// The places of a transfer: source, destination and tag.
-fn put_ends(
-    alloc: Global,
-    out: &mut Vec<u8>,
-    from: (&Name, &Access),
-    to: (&Name, &Access),
-    tag: (&Name, &Access),
-) -> Result<(), AllocError> {
-    put_place(alloc, out, from.0, from.1)?;
-    put(out, b", ")?;
-    put_place(alloc, out, to.0, to.1)?;
-    put(out, b", ")?;
-    put_place(alloc, out, tag.0, tag.1)
-}
-
-/// The count of a transfer with its stride, and then the types of its three places.
-fn put_amount(
-    alloc: Global,
-    out: &mut Vec<u8>,
-    count: &Name,
-    stride: &Option<(Name, Name)>,
-    types: &[MemrefType],
-) -> Result<(), AllocError> {
-    put(out, b", ")?;
-    put_name(out, count)?;
-    put_stride(out, stride)?;
-    put(out, b" : ")?;
-    put_types(alloc, out, types)
-}
-
-fn put_wait(
-    alloc: Global,
-    out: &mut Vec<u8>,
-    tag: &Name,
-    tag_at: &Access,
-    count: &Name,
-    ty: &MemrefType,
-) -> Result<(), AllocError> {
-    put(out, b"affine.dma_wait ")?;
-    put_place(alloc, out, tag, tag_at)?;
-    put(out, b", ")?;
-    put_name(out, count)?;
-    put_typed(alloc, out, ty)
-}
-
-/// The head of a loop, up to its brace. A step stands where it isn't 1.
+/// The head of a loop, up to the line feed behind its brace.
+#[tactic(auto, unfolding(affine_ast::specs::Spelling::for_text))]
 fn put_for(
     alloc: Global,
     out: &mut Vec<u8>,
@@ -285,52 +48,116 @@ fn put_for(
     lower: &Bound,
     upper: &Bound,
     step: i64,
-) -> Result<(), AllocError> {
-    put(out, b"affine.for ")?;
-    put_defined(out, var)?;
-    put_bound(alloc, out, lower, b"max ")?;
-    put(out, b" to ")?;
-    put_bound(alloc, out, upper, b"min ")?;
-    if step != 1 {
-        put(out, b" step ")?;
-        put_signed(alloc, out, step)?;
-    }
+) -> Result<(), AllocError>
+    ensures { OnOk result (out.new.items ≡ out.old.items ++ for_text var.now lower.now upper.now step) }
+{
+    put_named(out, b"affine.for ", var)?;
+    put(out, b" = ")?;
+    put_bounds(alloc, out, lower, upper)?;
+    put_step(alloc, out, step)?;
     put(out, b" {\n")
 }
 
-fn put_if(
-    alloc: Global,
-    out: &mut Vec<u8>,
-    set: &Set,
-    operands: &[Name],
-) -> Result<(), AllocError> {
+/// The head of a condition, up to the line feed behind its brace.
+#[tactic(auto, unfolding(affine_ast::specs::Spelling::if_text))]
+fn put_if(alloc: Global, out: &mut Vec<u8>, set: &Set, operands: &[Name]) -> Result<(), AllocError>
+    ensures { OnOk result (out.new.items ≡ out.old.items ++ if_text set.now operands.now) }
+{
     put(out, b"affine.if ")?;
     put_set(alloc, out, set, operands)?;
     put(out, b" {\n")
 }
 
-/// The brace behind a region, at the indent of its head.
-fn put_close(out: &mut Vec<u8>, indent: u32) -> Result<(), AllocError> {
-    put_indent(out, indent)?;
+/// The margin of the lines inside a region.
+#[tactic(auto, unfolding(affine_ast::specs::Spelling::deeper))]
+fn inner_margin(alloc: Global, margin: &[u8]) -> Result<Vec<u8>, AllocError>
+    ensures { IfOk result (λ inner. inner.items ≡ deeper margin.now) }
+{
+    let mut inner = Vec::from_slice(alloc, margin)?;
+    put(&mut inner, b"  ")?;
+    Ok(inner)
+}
+
+/// The brace behind a region, at the margin of its head.
+fn put_close(out: &mut Vec<u8>, margin: &[u8]) -> Result<(), AllocError>
+    ensures { OnOk result (out.new.items ≡ out.old.items ++ (margin.now ++ codes "}")) }
+{
+    put(out, margin)?;
     put(out, b"}")
 }
 
-/// The second region of a condition, where there is one.
+/// The lines of a region whose head stands at a margin.
 #[cycle(statements)]
+fn put_region(
+    alloc: Global,
+    out: &mut Vec<u8>,
+    body: &[Stmt],
+    margin: &[u8],
+) -> Result<(), AllocError>
+    ensures { OnOk result (out.new.items ≡ out.old.items ++ lines (deeper margin.now) (nest body.now)) }
+{
+    let inner = inner_margin(alloc, margin)?;
+    put_stmts(alloc, out, body, inner.as_slice())
+}
+
+/// The second region of a condition.
+#[cycle(statements)]
+#[tactic(auto, unfolding(affine_ast::specs::Spelling::else_text))]
 fn put_else(
     alloc: Global,
     out: &mut Vec<u8>,
     other: &[Stmt],
-    indent: u32,
-) -> Result<(), AllocError> {
-    put_indent(out, indent)?;
+    margin: &[u8],
+) -> Result<(), AllocError>
+    ensures { OnOk result (out.new.items ≡ out.old.items ++ else_text margin.now true (lines (deeper margin.now) (nest other.now))) }
+{
+    put(out, margin)?;
     put(out, b"} else {\n")?;
-    put_stmts(alloc, out, other, indent.saturating_add(2))
+    put_region(alloc, out, other, margin)
 }
 
-/// A statement without its indent and line feed.
+/// A loop. The brace behind its body stands at the margin.
 #[cycle(statements)]
-fn put_what(alloc: Global, out: &mut Vec<u8>, what: &What, indent: u32) -> Result<(), AllocError> {
+#[tactic(auto, unfolding(affine_ast::specs::Spelling::block_text))]
+fn put_loop(
+    alloc: Global,
+    out: &mut Vec<u8>,
+    var: &Name,
+    lower: &Bound,
+    upper: &Bound,
+    step: i64,
+    body: &[Stmt],
+    margin: &[u8],
+) -> Result<(), AllocError>
+    ensures { OnOk result (out.new.items ≡ out.old.items ++ block_text margin.now (for_text var.now lower.now upper.now step) (lines (deeper margin.now) (nest body.now))) }
+{
+    put_for(alloc, out, var, lower, upper, step)?;
+    put_region(alloc, out, body, margin)?;
+    put_close(out, margin)
+}
+
+/// A condition up to the end of its first region.
+#[cycle(statements)]
+fn put_first_region(
+    alloc: Global,
+    out: &mut Vec<u8>,
+    set: &Set,
+    operands: &[Name],
+    first: &[Stmt],
+    margin: &[u8],
+) -> Result<(), AllocError>
+    ensures { OnOk result (out.new.items ≡ out.old.items ++ (if_text set.now operands.now ++ lines (deeper margin.now) (nest first.now))) }
+{
+    put_if(alloc, out, set, operands)?;
+    put_region(alloc, out, first, margin)
+}
+
+/// A statement without the margin before it and the line feed behind it.
+#[cycle(statements)]
+#[tactic(auto, using(affine_ast::proofs::Spellings::statement_texts))]
+fn put_what(alloc: Global, out: &mut Vec<u8>, what: &What, margin: &[u8]) -> Result<(), AllocError>
+    ensures { OnOk result (out.new.items ≡ out.old.items ++ statement_text margin.now what.now) }
+{
     match what {
         What::For {
             var,
@@ -338,23 +165,37 @@ fn put_what(alloc: Global, out: &mut Vec<u8>, what: &What, indent: u32) -> Resul
             upper,
             step,
             body,
-        } => {
-            put_for(alloc, out, var, lower, upper, *step)?;
-            put_stmts(alloc, out, body.as_slice(), indent.saturating_add(2))?;
-            put_close(out, indent)
-        }
+        } => put_loop(
+            alloc,
+            out,
+            var,
+            lower,
+            upper,
+            *step,
+            body.as_slice(),
+            margin,
+        ),
         What::If {
             set,
             operands,
             first,
             other,
         } => {
-            put_if(alloc, out, set, operands.as_slice())?;
-            put_stmts(alloc, out, first.as_slice(), indent.saturating_add(2))?;
-            if let Some(other) = other {
-                put_else(alloc, out, other.as_slice(), indent)?;
+            put_first_region(
+                alloc,
+                out,
+                set,
+                operands.as_slice(),
+                first.as_slice(),
+                margin,
+            )?;
+            match other {
+                None => put_close(out, margin),
+                Some(other) => {
+                    put_else(alloc, out, other.as_slice(), margin)?;
+                    put_close(out, margin)
+                }
             }
-            put_close(out, indent)
         }
         What::Value { result, pick, at } => put_value(alloc, out, result, *pick, at),
         What::Load {
@@ -408,11 +249,9 @@ fn put_what(alloc: Global, out: &mut Vec<u8>, what: &What, indent: u32) -> Resul
             count,
             stride,
             types,
-        } => {
-            put(out, b"affine.dma_start ")?;
-            put_ends(alloc, out, (from, from_at), (to, to_at), (tag, tag_at))?;
-            put_amount(alloc, out, count, stride, types.as_slice())
-        }
+        } => put_start(
+            alloc, out, from, from_at, to, to_at, tag, tag_at, count, stride, types,
+        ),
         What::Wait {
             tag,
             tag_at,
@@ -423,18 +262,29 @@ fn put_what(alloc: Global, out: &mut Vec<u8>, what: &What, indent: u32) -> Resul
     }
 }
 
-/// Statements, each on a line of its own.
+/// A statement on a line of its own.
+#[cycle(statements)]
+#[tactic(auto, unfolding(affine_ast::specs::Spelling::line_text))]
+fn put_stmt(alloc: Global, out: &mut Vec<u8>, stmt: &Stmt, margin: &[u8]) -> Result<(), AllocError>
+    ensures { OnOk result (out.new.items ≡ out.old.items ++ line_text margin.now (statement_text margin.now stmt.now.what)) }
+{
+    put(out, margin)?;
+    put_what(alloc, out, &stmt.what, margin)?;
+    put(out, b"\n")
+}
+
+/// Statements, each on a line of its own at the margin.
 #[cycle(statements)]
 pub fn put_stmts(
     alloc: Global,
     out: &mut Vec<u8>,
     stmts: &[Stmt],
-    indent: u32,
-) -> Result<(), AllocError> {
+    margin: &[u8],
+) -> Result<(), AllocError>
+    ensures { OnOk result (out.new.items ≡ out.old.items ++ lines margin.now (nest stmts.now)) }
+{
     for stmt in stmts {
-        put_indent(out, indent)?;
-        put_what(alloc, out, &stmt.what, indent)?;
-        put(out, b"\n")?;
+        put_stmt(alloc, out, stmt, margin)?;
     }
     Ok(())
 }

@@ -1,8 +1,7 @@
 -- What the arguments of a module stand for: each memref has its own run of slow places.
-use Rattle.std.proofs.Common.{◌≡◌, ℕ, suc, ◌+◌, ◌*◌, ◌≤◌, ◌⊎◌, inl, inr, ℤ, List, [], ◌∷◌, ◌++◌, length, refl, sym, ap, ◌∙◌, subst, arith, Bool, true, false}
-use Rattle.std.specs.Prelude.{fold, flat_map, Option, Some, None}
+use Rattle.std.proofs.Common.{◌≡◌, ℕ, ◌+◌, ◌≤◌, ◌⊎◌, inl, inr, ℤ, List, [], ◌∷◌, length, refl, sym, ap, ◌∙◌, subst, arith, Bool, true, false}
+use Rattle.std.specs.Prelude.{fold, Option, Some, None}
 use Rattle.std.proofs.lemmas.List.{length-append}
-use Rattle.affine_expr.specs.declared.map.Interval.{Interval}
 use Rattle.affine_ast.specs.declared.name.Name.{Name}
 use Rattle.affine_ast.specs.declared.image.Cells.{Cells}
 use Rattle.affine_ast.specs.declared.module.Arg.{Arg}
@@ -10,10 +9,10 @@ use Rattle.affine_ast.specs.declared.module.ArgKind.{ArgKind}
 use Rattle.affine_ast.specs.declared.module.ArgKind.TheVariants.{Memref, Index}
 use Rattle.affine_ast.specs.declared.types.MemrefType.{MemrefType}
 use Rattle.affine_ast.specs.Names.{same_name, put}
-use Rattle.affine_ast.proofs.Names.{same_name-eq, same_name-refl, put-same, put-other}
+use Rattle.affine_ast.proofs.Names.{same_name-eq, put-same, put-other}
 use Rattle.nest_meaning.specs.Action.{Home, SlowMemref}
-use Rattle.nest_meaning.specs.Static.{Env, product}
-use Rattle.nest_meaning.specs.Memory.{slow_list, FitsArg, FitsArgs, Placed, place_kind, place_arg, empty_env, placed_args, start_env}
+use Rattle.nest_meaning.specs.Static.{product}
+use Rattle.nest_meaning.specs.Memory.{slow_list, FitsArg, FitsArgs, Placed, place_kind, place_arg, empty_env, start_env}
 use Rattle.copy_emit.specs.FirstForm.{note_type, arg_types}
 
 -- a memref's run of slow places
@@ -46,7 +45,8 @@ module _ (homes : Name → Option Home) (total order : ℕ) (types : Name → Op
   run_more m uy true t e =
       let k : ty ≡ uy = same_type (types' m) ty uy (put-same types name (Some ty) m t) e in
       record {
-        order = order; first = total;
+        order = order;
+        first = total;
         home = put-same homes name (Some (SlowMemref order total)) m t;
         fits = subst (λ (u : MemrefType). total + product u.sizes ≤ total + product ty.sizes) k (omega arith);
       }

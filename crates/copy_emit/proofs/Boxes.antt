@@ -1,27 +1,27 @@
 -- A run of slow places that goes to one half of a fresh fast memref, and comes back: the relation before and after the
 -- copies.
-use Rattle.std.proofs.Common.{◌≡◌, ◌≢◌, ℕ, zero, suc, ◌+◌, ◌-◌, ◌*◌, ◌<◌, ◌≤◌, ◌⊎◌, inl, inr, ℤ, pos, List, [], ◌∷◌, length, get_or, refl, sym, ap, ◌∙◌, subst, arith, Bool, true, false}
-use Rattle.std.specs.Prelude.{◌&&◌, Option, Some, None, nat_eq, nat_lt, nat_le, if◌then◌else◌, replicate}
+use Rattle.std.proofs.Common.{◌≡◌, ℕ, suc, ◌+◌, ◌-◌, ◌*◌, ◌<◌, ◌≤◌, ◌⊎◌, inl, inr, ℤ, pos, List, [], ◌∷◌, length, get_or, refl, sym, ap, ◌∙◌, subst, arith, Bool, true, false}
+use Rattle.std.specs.Prelude.{◌&&◌, Some, None, nat_eq, nat_lt, nat_le, if◌then◌else◌}
 use Rattle.std.proofs.lemmas.List.{length-replicate}
-use Rattle.std.proofs.lemmas.Bool.{eqb-true, eqb-false, eq-eqb, ne_eqb, lt-ltb, ltb-true, le-leb, leb-true, and_parts}
+use Rattle.std.proofs.lemmas.Bool.{ne_eqb, lt-ltb, ltb-true, le-leb, leb-true, and_parts}
 use Rattle.affine_ast.specs.declared.name.Name.{Name}
 use Rattle.affine_ast.specs.declared.types.Element.TheVariants.{I32}
 use Rattle.affine_ast.specs.Names.{same_name}
 use Rattle.affine_ast.proofs.Names.{same_name-eq}
 use Rattle.int_ops.specs.Wrapped.{wrapped}
-use Rattle.nest_meaning.specs.Direct.{Outcome, End, Fault, State}
-use Rattle.prompt_meaning.specs.Device.{Device, bytes_of, put_halves, fresh_half, allocated, released}
+use Rattle.nest_meaning.specs.Direct.{State}
+use Rattle.prompt_meaning.specs.Device.{Device, fresh_half, allocated, released}
 use Rattle.prompt_meaning.proofs.Laws.{halves_same, halves_other}
-use Rattle.copy_emit.proofs.Moved.{Cell, Layout, Sound, Live, Lives}
-use Rattle.copy_emit.proofs.Copies.{Kept, CopiedIn, CopiedOut}
+use Rattle.copy_emit.proofs.Moved.{Cell, Layout, Sound, Lives}
+use Rattle.copy_emit.proofs.Copies.{CopiedIn, CopiedOut}
 
 -- a name of the text is none of the template's
 pub apart_own : (own : Name → Bool) (a b : Name) → own a ≡ false → own b ≡ true → same_name a b ≡ false
 apart_own own a b p q = by_case (same_name a b) refl
   where
-  by_case : (t : Bool) → same_name a b ≡ t → same_name a b ≡ false
-  by_case true e = let k : false ≡ true = sym p ∙ ap own (same_name-eq a b e) ∙ q in cc
-  by_case false e = e
+    by_case : (t : Bool) → same_name a b ≡ t → same_name a b ≡ false
+    by_case true e = let k : false ≡ true = sym p ∙ ap own (same_name-eq a b e) ∙ q in cc
+    by_case false e = e
 
 sizes_are : (size : ℕ) → 1 * (size * 1) * 4 ≡ 4 * size
 sizes_are size = omega arith
@@ -82,9 +82,9 @@ module _ (own : Name → Bool) (rho : Layout) (stale : ℕ → Bool) (total : �
   out_of_box p (inl h) = let a : nat_le first p ≡ false = grind (arith, h) in ap (λ t. t && nat_lt p (first + size)) a
   out_of_box p (inr h) = let a : nat_lt p (first + size) ≡ false = grind (arith, h) in ap (λ t. nat_le first p && t) a ∙ no (nat_le first p)
     where
-    no : (t : Bool) → (t && false) ≡ false
-    no true = refl
-    no false = refl
+      no : (t : Bool) → (t && false) ≡ false
+      no true = refl
+      no false = refl
 
   -- which cell a place with the box lives in
   data Which (p : ℕ) (c : Cell) : Type 0 where
@@ -94,18 +94,18 @@ module _ (own : Name → Bool) (rho : Layout) (stale : ℕ → Bool) (total : �
   which : (p : ℕ) (c : Cell) → with_box p ≡ Some c → Which p c
   which p c e = by_case (in_box p) refl
     where
-    by_case : (t : Bool) → in_box p ≡ t → Which p c
-    by_case true t =
-        let k : Some (box_cell (p - first)) ≡ Some c = sym (ap (λ t. if t then Some (box_cell (p - first)) else rho p) t) ∙ e in
-        Boxed (from_box p t) (cc)
-    by_case false t = Before t (sym (lives_out p t) ∙ e)
+      by_case : (t : Bool) → in_box p ≡ t → Which p c
+      by_case true t =
+          let k : Some (box_cell (p - first)) ≡ Some c = sym (ap (λ t. if t then Some (box_cell (p - first)) else rho p) t) ∙ e in
+          Boxed (from_box p t) (cc)
+      by_case false t = Before t (sym (lives_out p t) ∙ e)
 
   pub below' : (p : ℕ) (c : Cell) → with_box p ≡ Some c → c.number < suc number
   below' p c e = at (which p c e)
     where
-    at : Which p c → c.number < suc number
-    at (Boxed b k) = let n : c.number ≡ number = ap (λ c. c.number) k in omega (arith, n)
-    at (Before t k) = let n = below p c k in omega (arith, n)
+      at : Which p c → c.number < suc number
+      at (Boxed b k) = let n : c.number ≡ number = ap (λ c. c.number) k in omega (arith, n)
+      at (Before t k) = let n = below p c k in omega (arith, n)
 
   pub sound_with : Sound with_box stale_with total
   sound_with = record {
@@ -114,22 +114,22 @@ module _ (own : Name → Bool) (rho : Layout) (stale : ℕ → Bool) (total : �
     fresh = λ p e. fresh p (in_box p) refl e;
   }
     where
-    inside : (p : ℕ) (c : Cell) → Which p c → p < total
-    inside p c (Boxed b k) = let l = b.less in let i = b.is in omega (arith, l, i, fits)
-    inside p c (Before t k) = sound.inside p c k
+      inside : (p : ℕ) (c : Cell) → Which p c → p < total
+      inside p c (Boxed b k) = let l = b.less in let i = b.is in omega (arith, l, i, fits)
+      inside p c (Before t k) = sound.inside p c k
 
-    alone : (p q : ℕ) (c : Cell) → Which p c → Which q c → p ≡ q
-    alone p q c (Boxed a k) (Boxed b l) =
-        let e : p - first ≡ q - first = ap (λ (c : Cell). c.cell) (sym k ∙ l) in
-        sym a.is ∙ ap (λ i. first + i) e ∙ b.is
-    alone p q c (Boxed a k) (Before t l) = let n : c.number ≡ number = ap (λ (c : Cell). c.number) k in let m = below q c l in absurd (omega (arith, n, m))
-    alone p q c (Before t l) (Boxed a k) = let n : c.number ≡ number = ap (λ (c : Cell). c.number) k in let m = below p c l in absurd (omega (arith, n, m))
-    alone p q c (Before t k) (Before u l) = sound.alone p q c k l
+      alone : (p q : ℕ) (c : Cell) → Which p c → Which q c → p ≡ q
+      alone p q c (Boxed a k) (Boxed b l) =
+          let e : p - first ≡ q - first = ap (λ (c : Cell). c.cell) (sym k ∙ l) in
+          sym a.is ∙ ap (λ i. first + i) e ∙ b.is
+      alone p q c (Boxed a k) (Before t l) = let n : c.number ≡ number = ap (λ (c : Cell). c.number) k in let m = below q c l in absurd (omega (arith, n, m))
+      alone p q c (Before t l) (Boxed a k) = let n : c.number ≡ number = ap (λ (c : Cell). c.number) k in let m = below p c l in absurd (omega (arith, n, m))
+      alone p q c (Before t k) (Before u l) = sound.alone p q c k l
 
-    fresh : (p : ℕ) (t : Bool) → in_box p ≡ t → with_box p ≡ None → stale_with p ≡ false
-    fresh p true t e =
-        let k : Some (box_cell (p - first)) ≡ None = sym (ap (λ t. if t then Some (box_cell (p - first)) else rho p) t) ∙ e in cc
-    fresh p false t e = stale_out p t ∙ sound.fresh p (sym (lives_out p t) ∙ e)
+      fresh : (p : ℕ) (t : Bool) → in_box p ≡ t → with_box p ≡ None → stale_with p ≡ false
+      fresh p true t e =
+          let k : Some (box_cell (p - first)) ≡ None = sym (ap (λ t. if t then Some (box_cell (p - first)) else rho p) t) ∙ e in cc
+      fresh p false t e = stale_out p t ∙ sound.fresh p (sym (lives_out p t) ∙ e)
 
   -- no place of the box was stale
   was_current : (p : ℕ) (t : Bool) → in_box p ≡ t → stale_with p ≡ false → stale p ≡ false
@@ -167,24 +167,24 @@ module _ (own : Name → Bool) (rho : Layout) (stale : ℕ → Bool) (total : �
       idle = c.kept.outstanding ∙ s.idle;
     }
       where
-      old_half : (b : Cell) → b.number < number → z.halves b.number b.half ≡ y.halves b.number b.half
-      old_half b less =
-          c.others b.number b.half (ap (λ t. t && nat_eq 0 b.half) (number_differs b 0 less))
-          ∙ halves_other y.halves number b.number b.half fresh_cells (number_differs b 0 less)
+        old_half : (b : Cell) → b.number < number → z.halves b.number b.half ≡ y.halves b.number b.half
+        old_half b less =
+            c.others b.number b.half (ap (λ t. t && nat_eq 0 b.half) (number_differs b 0 less))
+            ∙ halves_other y.halves number b.number b.half fresh_cells (number_differs b 0 less)
 
-      room : (p : ℕ) (b : Cell) → Which p b → b.cell < length (z.halves b.number b.half)
-      room p b (Boxed a k) =
-          subst (λ (b : Cell). b.cell < length (z.halves b.number b.half)) (sym k)
-          (subst (λ n. p - first < n) (sym (c.long ∙ alloc_long y)) a.less)
-      room p b (Before t k) = subst (λ l. b.cell < length l) (sym (old_half b (below p b k))) (s.room p b k)
+        room : (p : ℕ) (b : Cell) → Which p b → b.cell < length (z.halves b.number b.half)
+        room p b (Boxed a k) =
+            subst (λ (b : Cell). b.cell < length (z.halves b.number b.half)) (sym k)
+            (subst (λ n. p - first < n) (sym (c.long ∙ alloc_long y)) a.less)
+        room p b (Before t k) = subst (λ l. b.cell < length l) (sym (old_half b (below p b k))) (s.room p b k)
 
-      fast : (p : ℕ) (b : Cell) → Which p b → get_or (z.halves b.number b.half) b.cell (pos 0) ≡ get_or d.slow p (pos 0)
-      fast p b (Boxed a k) =
-          subst (λ (b : Cell). get_or (z.halves b.number b.half) b.cell (pos 0) ≡ get_or d.slow p (pos 0)) (sym k)
-          (c.copied (p - first) (omega arith) (let l = a.less in omega (arith, l))
-          ∙ ap (λ i. get_or y.state.slow i (pos 0)) a.is
-          ∙ sym (s.slow p (subst (λ i. stale i ≡ false) a.is (current (p - first) a.less))))
-      fast p b (Before t k) = ap (λ l. get_or l b.cell (pos 0)) (old_half b (below p b k)) ∙ s.fast p b k
+        fast : (p : ℕ) (b : Cell) → Which p b → get_or (z.halves b.number b.half) b.cell (pos 0) ≡ get_or d.slow p (pos 0)
+        fast p b (Boxed a k) =
+            subst (λ (b : Cell). get_or (z.halves b.number b.half) b.cell (pos 0) ≡ get_or d.slow p (pos 0)) (sym k)
+            (c.copied (p - first) (omega arith) (let l = a.less in omega (arith, l))
+            ∙ ap (λ i. get_or y.state.slow i (pos 0)) a.is
+            ∙ sym (s.slow p (subst (λ i. stale i ≡ false) a.is (current (p - first) a.less))))
+        fast p b (Before t k) = ap (λ l. get_or l b.cell (pos 0)) (old_half b (below p b k)) ∙ s.fast p b k
 
     -- where nothing is copied out, the slow places of the box are as the original run has them
     abbrev release_device : Device → Device
@@ -196,11 +196,11 @@ module _ (own : Name → Bool) (rho : Layout) (stale : ℕ → Bool) (total : �
     not_boxed : (p : ℕ) (b : Cell) → rho p ≡ Some b → in_box p ≡ false
     not_boxed p b e = by_case (in_box p) refl
       where
-      by_case : (t : Bool) → in_box p ≡ t → in_box p ≡ false
-      by_case true t =
-          let a = from_box p t in
-          let k : None ≡ Some b = sym (free (p - first) a.less) ∙ ap rho a.is ∙ e in cc
-      by_case false t = t
+        by_case : (t : Bool) → in_box p ≡ t → in_box p ≡ false
+        by_case true t =
+            let a = from_box p t in
+            let k : None ≡ Some b = sym (free (p - first) a.less) ∙ ap rho a.is ∙ e in cc
+        by_case false t = t
 
     still : (p : ℕ) (b : Cell) → rho p ≡ Some b → with_box p ≡ Some b
     still p b e = lives_out p (not_boxed p b e) ∙ e
@@ -211,14 +211,15 @@ module _ (own : Name → Bool) (rho : Layout) (stale : ℕ → Bool) (total : �
       slow = λ p h. s.slow p (at p (in_box p) refl h);
       room = λ p b e. s.room p b (still p b e);
       fast = λ p b e. s.fast p b (still p b e);
-      direct_long = s.direct_long; long = s.long;
+      direct_long = s.direct_long;
+      long = s.long;
       has_level = live_back y.live s.has_level;
       idle = s.idle;
     }
       where
-      at : (p : ℕ) (t : Bool) → in_box p ≡ t → stale p ≡ false → stale_with p ≡ false
-      at p true t h = ap (λ t. if t then writes else stale p) t ∙ keeps
-      at p false t h = stale_out p t ∙ h
+        at : (p : ℕ) (t : Bool) → in_box p ≡ t → stale p ≡ false → stale_with p ≡ false
+        at p true t h = ap (λ t. if t then writes else stale p) t ∙ keeps
+        at p false t h = stale_out p t ∙ h
 
     pub ends_written : (d : State) (y z : Device) → Lives own with_box stale_with total (level + 4 * size) d y → CopiedOut filler capacity (λ k. first + k) v number 0 0 size y z → Lives own rho stale total level d (release_device z)
     ends_written d y z s c = record {
@@ -232,16 +233,16 @@ module _ (own : Name → Bool) (rho : Layout) (stale : ℕ → Bool) (total : �
       idle = c.kept.outstanding ∙ s.idle;
     }
       where
-      slow : (p : ℕ) (t : Bool) → in_box p ≡ t → stale p ≡ false → get_or d.slow p (pos 0) ≡ get_or z.state.slow p (pos 0)
-      slow p true t h =
-          let a = from_box p t in
-          let l = a.less in
-          let there = lives_in (p - first) a.less in
-          subst (λ i. get_or d.slow i (pos 0) ≡ get_or z.state.slow i (pos 0)) a.is
-          (sym (s.fast (first + (p - first)) (box_cell (p - first)) there)
-          ∙ sym (c.copied (p - first) (omega arith) (omega (arith, l))))
-      slow p false t h = s.slow p (stale_out p t ∙ h) ∙ sym (c.others p (λ i a b e. not_in p i t b e))
-        where
-        not_in : (p i : ℕ) → in_box p ≡ false → i < 0 + size → p ≡ first + i → ⊥
-        not_in p i t b e =
-            let k : in_box p ≡ true = ap in_box e ∙ inside_box i (omega (arith, b)) in cc
+        slow : (p : ℕ) (t : Bool) → in_box p ≡ t → stale p ≡ false → get_or d.slow p (pos 0) ≡ get_or z.state.slow p (pos 0)
+        slow p true t h =
+            let a = from_box p t in
+            let l = a.less in
+            let there = lives_in (p - first) a.less in
+            subst (λ i. get_or d.slow i (pos 0) ≡ get_or z.state.slow i (pos 0)) a.is
+            (sym (s.fast (first + (p - first)) (box_cell (p - first)) there)
+            ∙ sym (c.copied (p - first) (omega arith) (omega (arith, l))))
+        slow p false t h = s.slow p (stale_out p t ∙ h) ∙ sym (c.others p (λ i a b e. not_in p i t b e))
+          where
+            not_in : (p i : ℕ) → in_box p ≡ false → i < 0 + size → p ≡ first + i → ⊥
+            not_in p i t b e =
+                let k : in_box p ≡ true = ap in_box e ∙ inside_box i (omega (arith, b)) in cc

@@ -1,8 +1,7 @@
 -- Loads and stores that copy cells one after the other, between slow places and a half of fast memory. Any function says
 -- which slow place a cell is copied from or to, so these serve boxes of every rank that are walked row-major.
-use Rattle.std.proofs.Common.{◌≡◌, ◌≢◌, ℕ, zero, suc, ◌+◌, ◌<◌, ◌≤◌, ℤ, pos, ◌+ℤ◌, ◌<ℤ◌, ◌≤ℤ◌, List, [], ◌∷◌, ◌++◌, length, length-set, get_or, refl, sym, ap, ◌∙◌, subst, arith, Bool, true, false}
-use Rattle.std.specs.Prelude.{◌&&◌, flat_map, Option, Some, None, nat_eq, slice_index_or, slice_set}
-use Rattle.std.specs.Int.{int_max}
+use Rattle.std.proofs.Common.{◌≡◌, ◌≢◌, ℕ, zero, suc, ◌+◌, ◌<◌, ◌≤◌, ℤ, pos, ◌+ℤ◌, List, [], ◌∷◌, ◌++◌, length, length-set, get_or, refl, sym, ap, ◌∙◌, subst, arith, Bool, true, false}
+use Rattle.std.specs.Prelude.{◌&&◌, flat_map, nat_eq, slice_set}
 use Rattle.std.proofs.lemmas.Int.{ints}
 use Rattle.std.proofs.lemmas.List.{get_or-set_same, get_or-set_other}
 use Rattle.std.proofs.lemmas.Bool.{eqb-true, eqb-false, eq-eqb}
@@ -11,12 +10,12 @@ use Rattle.affine_ast.specs.Names.{same_name, put}
 use Rattle.affine_ast.proofs.Names.{same_name-refl, put-same, put-other}
 use Rattle.bus_model.specs.declared.step.FaultKind.TheVariants.{Touched, Race}
 use Rattle.nest_meaning.specs.Turns.{turns}
-use Rattle.nest_meaning.specs.Action.{Place, Slow, Fast, Operand, Register, Action, Loads, Stores}
-use Rattle.nest_meaning.specs.Direct.{Outcome, End, Fault, then_do, folded, State, keep, write, read}
+use Rattle.nest_meaning.specs.Action.{Slow, Fast, Register, Action, Loads, Stores}
+use Rattle.nest_meaning.specs.Direct.{Outcome, End, then_do, folded, keep, write, read}
 use Rattle.nest_meaning.proofs.Laws.{turns_more, turns_end}
 use Rattle.prompt_meaning.specs.Device.{Device, put_half, is_away, load_races, store_races}
 use Rattle.prompt_meaning.proofs.Laws.{half_same, half_other}
-use Rattle.prompt_meaning.specs.Prompt.{refused, prompt_load, prompt_store, acts, prompt_step}
+use Rattle.prompt_meaning.specs.Prompt.{refused, acts, prompt_step}
 
 -- two actions for each number from k on
 abbrev pub pairs : (ℕ → Action) → (ℕ → Action) → ℕ → ℕ → List Action
@@ -123,65 +122,88 @@ module _ (filler : ℤ) (capacity : ℕ) (place : ℕ → ℕ) (v : Name) (n h :
   pub copy_in : (r k : ℕ) (y : Device) → y.outstanding ≡ [] → k + r ≤ length (y.halves n h)
       → (z : Device) × (folded (prompt_step filler capacity) (pairs loads_in stores_in r k) y ≡ End z) × CopiedIn k r y z
   unfolding folded
-  copy_in zero k y idle fits = (y, refl, record {
-    kept = record { registers = λ x e. refl; live = refl; outstanding = refl };
-    slow = refl; others = λ m j e. refl; copied = λ i a b. absurd (omega (arith, a, b)); before = λ i e. refl; long = refl;
-  })
+  copy_in zero k y idle fits = (
+    y,
+    refl,
+    record {
+      kept = record { registers = λ x e. refl; live = refl; outstanding = refl };
+      slow = refl;
+      others = λ m j e. refl;
+      copied = λ i a b. absurd (omega (arith, a, b));
+      before = λ i e. refl;
+      long = refl;
+    },
+  )
   copy_in (suc r) k y idle fits =
       let y1 = next_in y k in
       let here : y1.halves n h ≡ slice_set (y.halves n h) k (slow_value y k) = half_same y.halves n h n h _ (itself n h) in
       let size : length (y1.halves n h) ≡ length (y.halves n h) = ap length here ∙ length-set (y.halves n h) k (slow_value y k) in
       let more = copy_in r (suc k) y1 idle (omega (arith, fits, size)) in
-      let c = more.2 in
-      (more.0, one_in y k (folded (prompt_step filler capacity) (pairs loads_in stores_in r (suc k))) idle ∙ more.1, record {
-        kept = record {
-          registers = λ x e. c.kept.registers x e ∙ put-other y.state.registers v (slow_value y k) x e;
-          live = c.kept.live; outstanding = c.kept.outstanding;
-        };
-        slow = c.slow;
-        others = λ m j e. c.others m j e ∙ half_other y.halves n h m j _ e;
-        copied = λ i a b. at i a b more.0 c here (nat_eq k i) refl;
-        before = λ i e. c.before i (omega (arith, e)) ∙ ap (λ l. get_or l i (pos 0)) here ∙ get_or-set_other (y.halves n h) k i (slow_value y k) (pos 0) (λ q. omega (arith, e, q));
-        long = c.long ∙ size;
-      })
+      let c = more.2 in (
+        more.0,
+        one_in y k (folded (prompt_step filler capacity) (pairs loads_in stores_in r (suc k))) idle ∙ more.1,
+        record {
+          kept = record {
+            registers = λ x e. c.kept.registers x e ∙ put-other y.state.registers v (slow_value y k) x e;
+            live = c.kept.live;
+            outstanding = c.kept.outstanding;
+          };
+          slow = c.slow;
+          others = λ m j e. c.others m j e ∙ half_other y.halves n h m j _ e;
+          copied = λ i a b. at i a b more.0 c here (nat_eq k i) refl;
+          before = λ i e. c.before i (omega (arith, e)) ∙ ap (λ l. get_or l i (pos 0)) here ∙ get_or-set_other (y.halves n h) k i (slow_value y k) (pos 0) (λ q. omega (arith, e, q));
+          long = c.long ∙ size;
+        },
+      )
     where
-    at : (i : ℕ) → k ≤ i → i < k + suc r → (z : Device) → CopiedIn (suc k) r (next_in y k) z → (next_in y k).halves n h ≡ slice_set (y.halves n h) k (slow_value y k)
-        → (t : Bool) → nat_eq k i ≡ t → get_or (z.halves n h) i (pos 0) ≡ get_or y.state.slow (place i) (pos 0)
-    at i a b z c here true t =
-        let e = eqb-true k i t in
-        subst (λ j. get_or (z.halves n h) j (pos 0) ≡ get_or y.state.slow (place j) (pos 0)) e
-        (c.before k (omega arith) ∙ ap (λ l. get_or l k (pos 0)) here ∙ get_or-set_same (y.halves n h) k (slow_value y k) (pos 0) (omega (arith, fits)))
-    at i a b z c here false t = let ne = eqb-false k i t in c.copied i (omega (arith, a, ne)) (omega (arith, b))
+      at : (i : ℕ) → k ≤ i → i < k + suc r → (z : Device) → CopiedIn (suc k) r (next_in y k) z → (next_in y k).halves n h ≡ slice_set (y.halves n h) k (slow_value y k)
+          → (t : Bool) → nat_eq k i ≡ t → get_or (z.halves n h) i (pos 0) ≡ get_or y.state.slow (place i) (pos 0)
+      at i a b z c here true t =
+          let e = eqb-true k i t in
+          subst (λ j. get_or (z.halves n h) j (pos 0) ≡ get_or y.state.slow (place j) (pos 0)) e
+          (c.before k (omega arith) ∙ ap (λ l. get_or l k (pos 0)) here ∙ get_or-set_same (y.halves n h) k (slow_value y k) (pos 0) (omega (arith, fits)))
+      at i a b z c here false t = let ne = eqb-false k i t in c.copied i (omega (arith, a, ne)) (omega (arith, b))
 
   pub copy_out : (apart : (i j : ℕ) → place i ≡ place j → i ≡ j) (r k : ℕ) (y : Device) → y.outstanding ≡ [] → ((i : ℕ) → i < k + r → place i < length y.state.slow)
       → (z : Device) × (folded (prompt_step filler capacity) (pairs loads_out stores_out r k) y ≡ End z) × CopiedOut k r y z
   unfolding folded
-  copy_out apart zero k y idle fits = (y, refl, record {
-    kept = record { registers = λ x e. refl; live = refl; outstanding = refl };
-    halves = refl; copied = λ i a b. absurd (omega (arith, a, b)); others = λ p e. refl; long = refl;
-  })
+  copy_out apart zero k y idle fits = (
+    y,
+    refl,
+    record {
+      kept = record { registers = λ x e. refl; live = refl; outstanding = refl };
+      halves = refl;
+      copied = λ i a b. absurd (omega (arith, a, b));
+      others = λ p e. refl;
+      long = refl;
+    },
+  )
   copy_out apart (suc r) k y idle fits =
       let y1 = next_out y k in
       let size : length y1.state.slow ≡ length y.state.slow = length-set y.state.slow (place k) (cell_value y k) in
       let more = copy_out apart r (suc k) y1 idle (λ i e. subst (λ n. place i < n) (sym size) (fits i (omega (arith, e)))) in
-      let c = more.2 in
-      (more.0, one_out y k (folded (prompt_step filler capacity) (pairs loads_out stores_out r (suc k))) idle ∙ more.1, record {
-        kept = record {
-          registers = λ x e. c.kept.registers x e ∙ put-other y.state.registers v (cell_value y k) x e;
-          live = c.kept.live; outstanding = c.kept.outstanding;
-        };
-        halves = c.halves;
-        copied = λ i a b. at i a b more.0 c (nat_eq k i) refl;
-        others = λ p e. c.others p (λ i a b. e i (omega (arith, a)) (omega (arith, b)))
-            ∙ get_or-set_other y.state.slow (place k) p (cell_value y k) (pos 0) (e k (omega arith) (omega arith));
-        long = c.long ∙ size;
-      })
+      let c = more.2 in (
+        more.0,
+        one_out y k (folded (prompt_step filler capacity) (pairs loads_out stores_out r (suc k))) idle ∙ more.1,
+        record {
+          kept = record {
+            registers = λ x e. c.kept.registers x e ∙ put-other y.state.registers v (cell_value y k) x e;
+            live = c.kept.live;
+            outstanding = c.kept.outstanding;
+          };
+          halves = c.halves;
+          copied = λ i a b. at i a b more.0 c (nat_eq k i) refl;
+          others = λ p e. c.others p (λ i a b. e i (omega (arith, a)) (omega (arith, b)))
+              ∙ get_or-set_other y.state.slow (place k) p (cell_value y k) (pos 0) (e k (omega arith) (omega arith));
+          long = c.long ∙ size;
+        },
+      )
     where
-    at : (i : ℕ) → k ≤ i → i < k + suc r → (z : Device) → CopiedOut (suc k) r (next_out y k) z → (t : Bool) → nat_eq k i ≡ t
-        → get_or z.state.slow (place i) (pos 0) ≡ get_or (y.halves n h) i (pos 0)
-    at i a b z c true t =
-        let e = eqb-true k i t in
-        subst (λ j. get_or z.state.slow (place j) (pos 0) ≡ get_or (y.halves n h) j (pos 0)) e
-        (c.others (place k) (λ j p q s. let u = apart k j s in omega (arith, p, u))
-        ∙ get_or-set_same y.state.slow (place k) (cell_value y k) (pos 0) (fits k (omega arith)))
-    at i a b z c false t = let ne = eqb-false k i t in c.copied i (omega (arith, a, ne)) (omega (arith, b))
+      at : (i : ℕ) → k ≤ i → i < k + suc r → (z : Device) → CopiedOut (suc k) r (next_out y k) z → (t : Bool) → nat_eq k i ≡ t
+          → get_or z.state.slow (place i) (pos 0) ≡ get_or (y.halves n h) i (pos 0)
+      at i a b z c true t =
+          let e = eqb-true k i t in
+          subst (λ j. get_or z.state.slow (place j) (pos 0) ≡ get_or (y.halves n h) j (pos 0)) e
+          (c.others (place k) (λ j p q s. let u = apart k j s in omega (arith, p, u))
+          ∙ get_or-set_same y.state.slow (place k) (cell_value y k) (pos 0) (fits k (omega arith)))
+      at i a b z c false t = let ne = eqb-false k i t in c.copied i (omega (arith, a, ne)) (omega (arith, b))

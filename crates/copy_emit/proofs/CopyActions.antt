@@ -1,6 +1,6 @@
 -- The statements that stand round the loop for a staged memref, as actions.
-use Rattle.std.proofs.Common.{◌≡◌, ◌≢◌, ℕ, zero, suc, ◌+◌, ◌*◌, ◌<◌, ◌≤◌, ℤ, pos, List, [], ◌∷◌, ◌++◌, refl, sym, ap, ◌∙◌, subst, arith, Bool, true, false}
-use Rattle.std.specs.Prelude.{flat_map, Option, Some, None, nat_lt, if◌then◌else◌}
+use Rattle.std.proofs.Common.{◌≡◌, ℕ, ◌+◌, ◌*◌, ◌<◌, pos, List, [], ◌∷◌, ◌++◌, refl, ap, ◌∙◌, arith, Bool, true, false}
+use Rattle.std.specs.Prelude.{Some, None, nat_lt, if◌then◌else◌}
 use Rattle.std.proofs.lemmas.Bool.{lt-ltb}
 use Rattle.affine_expr.proofs.Values.{value-Const, value-Dim}
 use Rattle.affine_ast.specs.declared.name.Name.{Name}
@@ -10,15 +10,14 @@ use Rattle.affine_ast.specs.declared.types.Element.TheVariants.{I32}
 use Rattle.affine_ast.specs.declared.types.MemrefType.{MemrefType}
 use Rattle.affine_ast.specs.declared.stmt.Stmt.{Stmt}
 use Rattle.affine_ast.specs.declared.stmt.What as what
-use Rattle.affine_ast.specs.Names.{same_name, put}
-use Rattle.affine_ast.specs.Nest.{Plain, Nest, Nothing, Loop, Does, Load, Store, Alloc, Dealloc, nest, put_what}
+use Rattle.affine_ast.specs.Names.{same_name}
+use Rattle.affine_ast.specs.Nest.{Nest, Nothing, Loop, Does, Load, Store, Alloc, Dealloc, nest}
 use Rattle.affine_ast.proofs.Names.{same_name-refl, put-same, put-other}
 use Rattle.affine_ast.proofs.Nests.{nest-nil, nest-cons, put-For, put-Load, put-Store, put-Alloc, put-Dealloc}
-use Rattle.nest_meaning.specs.Turns.{turns}
-use Rattle.nest_meaning.specs.Action.{Home, SlowMemref, FastMemref, Slow, Fast, Operand, Register, Action, Loads, Stores, Allocates, Releases}
-use Rattle.nest_meaning.specs.Static.{Env, knows, forgets, number, operand_of, numbers, results_of, product, within, cell_in, slow_at, fast_at, half_place, place_at, place_of, lower_of, upper_of}
+use Rattle.nest_meaning.specs.Action.{SlowMemref, FastMemref, Slow, Fast, Register, Action, Loads, Stores, Releases}
+use Rattle.nest_meaning.specs.Static.{Env, knows, forgets, number, operand_of, results_of, cell_in, slow_at, fast_at, place_at, place_of, lower_of, upper_of}
 use Rattle.nest_meaning.specs.Actions.{action_of, after_plain, behind, actions, after, dealloc_of}
-use Rattle.nest_meaning.proofs.Laws.{actions-Nothing, actions-Does, actions-Loop}
+use Rattle.nest_meaning.proofs.Laws.{actions-Loop}
 use Rattle.copy_emit.specs.Template.{Staged, made, slow_type, fast_type, at_value, in_half, copy_in, copy_out, before}
 use Rattle.copy_emit.specs.Template as template
 use Rattle.copy_emit.proofs.Copies.{pairs, pairs_of}
@@ -91,13 +90,13 @@ module _ (m f c v : Name) (size order first j : ℕ) (apart : same_name v c ≡ 
     unfolding actions action_of after_plain
     in_turn k less =
         λ i. Loads v (slow_place (knows e c (pos k)) k less (is_turn k) at_m i)
-          ∷ Stores (operand_of v (no_number k i)) (fast_place (forgets (knows e c (pos k)) v) k less (still_turn k) at_f i) ∷ []
+        ∷ Stores (operand_of v (no_number k i)) (fast_place (forgets (knows e c (pos k)) v) k less (still_turn k) at_f i) ∷ []
 
     out_turn : (k : ℕ) → k < size → actions out_nest (knows e c (pos k)) ≡ loads_fast v j k ∷ stores_slow v first k ∷ []
     unfolding actions action_of after_plain
     out_turn k less =
         λ i. Loads v (fast_place (knows e c (pos k)) k less (is_turn k) at_f i)
-          ∷ Stores (operand_of v (no_number k i)) (slow_place (forgets (knows e c (pos k)) v) k less (still_turn k) at_m i) ∷ []
+        ∷ Stores (operand_of v (no_number k i)) (slow_place (forgets (knows e c (pos k)) v) k less (still_turn k) at_m i) ∷ []
 
     pub in_loop : (line : ℕ) (rest : Nest) → actions (Loop line c (Int (pos 0)) (Int (pos size)) (pos 1) in_nest rest) e ≡ ins v first j size ++ actions rest (behind in_nest e)
     unfolding lower_of upper_of
@@ -126,7 +125,7 @@ nest_two v a b a_at b_at a_ty b_ty =
 
 nest_loop : (c : Name) (size : ℕ) (v a b : Name) (a_at b_at : Access) (a_ty b_ty : MemrefType) (rest : List Stmt)
     → nest (made (what.For c (Int (pos 0)) (Int (pos size)) (pos 1) (made (what.Load v a a_at a_ty) ∷ made (what.Store v b b_at b_ty) ∷ [])) ∷ rest)
-      ≡ Loop 0 c (Int (pos 0)) (Int (pos size)) (pos 1) (load_then_store v a a_at a_ty b b_at b_ty) (nest rest)
+    ≡ Loop 0 c (Int (pos 0)) (Int (pos size)) (pos 1) (load_then_store v a a_at a_ty b b_at b_ty) (nest rest)
 nest_loop c size v a b a_at b_at a_ty b_ty rest =
     nest-cons (made (what.For c (Int (pos 0)) (Int (pos size)) (pos 1) (made (what.Load v a a_at a_ty) ∷ made (what.Store v b b_at b_ty) ∷ []))) rest
     ∙ put-For 0 (nest rest) c (Int (pos 0)) (Int (pos size)) (pos 1) (made (what.Load v a a_at a_ty) ∷ made (what.Store v b b_at b_ty) ∷ [])

@@ -1,26 +1,21 @@
 -- The plan of the first form meets what the theorem asks of a plan.
-use Rattle.std.proofs.Common.{◌≡◌, ◌≢◌, ℕ, zero, suc, ◌+◌, ◌*◌, ◌<◌, ◌≤◌, ℤ, List, [], ◌∷◌, ◌++◌, length, refl, sym, ap, ◌∙◌, subst, arith, Bool, true, false}
-use Rattle.std.specs.Prelude.{not, ◌||◌, All, AllPairs, fold, sum_by, Option, Some, None, if◌then◌else◌, codes, decimal}
-use Rattle.std.proofs.lemmas.List.Sums.{sum_by-cons}
-use Rattle.std.proofs.lemmas.Fmt.{decimal_injective}
-use Rattle.affine_expr.specs.declared.map.Interval.{Interval}
+use Rattle.std.proofs.Common.{◌≡◌, ℕ, suc, ◌+◌, ◌≤◌, List, [], ◌∷◌, length, refl, sym, ap, ◌∙◌, subst, arith, Bool, true, false}
+use Rattle.std.specs.Prelude.{◌||◌, All, fold, Option, Some, None, if◌then◌else◌}
 use Rattle.affine_ast.specs.declared.name.Name.{Name}
 use Rattle.affine_ast.specs.declared.module.Arg.{Arg}
 use Rattle.affine_ast.specs.declared.module.ArgKind.{ArgKind}
 use Rattle.affine_ast.specs.declared.module.ArgKind.TheVariants.{Memref, Index}
-use Rattle.affine_ast.specs.declared.module.Module.{Module}
 use Rattle.affine_ast.specs.declared.types.Access.{Access}
 use Rattle.affine_ast.specs.declared.types.MemrefType.{MemrefType}
 use Rattle.affine_ast.specs.declared.stmt.Stmt.{Stmt}
 use Rattle.affine_ast.specs.declared.stmt.What as what
 use Rattle.affine_ast.specs.declared.stmt.What.{What}
 use Rattle.affine_ast.specs.Names.{same_name, put}
-use Rattle.affine_ast.proofs.Names.{same_name-eq, same_name-refl, same_name-is, put-same, put-other}
-use Rattle.nest_meaning.specs.Static.{product}
-use Rattle.copy_emit.specs.Template.{Staged, FirstLoop, slow_type}
-use Rattle.copy_emit.specs.FirstForm.{note_type, arg_types, IsFirstArg, IsFirstAccess, IsFirstWhat, IsFirstStmt, IsFirstForm, HasMadeNames, IsStagedArg, WritesOut, IsPlan}
-use Rattle.copy_emit.specs.FirstPlan.{Planned, first_size, access_of, note_access, note, note_stmt, first_plan, written_out, numbered_from, numbered, copy_name, of_text, arg_elements, first_staged, FirstPlanAgrees}
-use Rattle.copy_emit.proofs.Every.{all_head, all_tail, all_cons, all_nil, pairs_cons, pairs_nil}
+use Rattle.affine_ast.proofs.Names.{same_name-refl, put-same, put-other}
+use Rattle.copy_emit.specs.Template.{slow_type}
+use Rattle.copy_emit.specs.FirstForm.{note_type, IsFirstArg, IsFirstAccess, IsFirstWhat, IsFirstStmt}
+use Rattle.copy_emit.specs.FirstPlan.{Planned, first_size, access_of, note_access, note, note_stmt}
+use Rattle.copy_emit.proofs.Every.{all_head, all_tail, all_cons, all_nil}
 
 -- the memrefs of a plan are different
 abbrev pub Fresh : Name → List Planned → Type 0
@@ -50,33 +45,33 @@ fresh_more : (m : Name) (ps : List Planned) (a : Planned) → same_name m a.memr
 fresh_more m [] a ne h = (ne, tt)
 fresh_more m (p ∷ ps) a ne h = by (same_name p.memref a.memref) (fresh_more m ps a ne h.1)
   where
-  by : (t : Bool) → Fresh m (note_access ps a) → Fresh m (if t then record { memref = p.memref; size = p.size; writes = p.writes || a.writes } ∷ ps else p ∷ note_access ps a)
-  by true more = h
-  by false more = (h.0, more)
+    by : (t : Bool) → Fresh m (note_access ps a) → Fresh m (if t then record { memref = p.memref; size = p.size; writes = p.writes || a.writes } ∷ ps else p ∷ note_access ps a)
+    by true more = h
+    by false more = (h.0, more)
 
 distinct_more : (ps : List Planned) (a : Planned) → Distinct ps → Distinct (note_access ps a)
 distinct_more [] a h = (tt, tt)
 distinct_more (p ∷ ps) a h = by (same_name p.memref a.memref) refl (distinct_more ps a h.1)
   where
-  by : (t : Bool) → same_name p.memref a.memref ≡ t → Distinct (note_access ps a) → Distinct (if t then record { memref = p.memref; size = p.size; writes = p.writes || a.writes } ∷ ps else p ∷ note_access ps a)
-  by true e more = h
-  by false e more = (fresh_more p.memref ps a e h.0, more)
+    by : (t : Bool) → same_name p.memref a.memref ≡ t → Distinct (note_access ps a) → Distinct (if t then record { memref = p.memref; size = p.size; writes = p.writes || a.writes } ∷ ps else p ∷ note_access ps a)
+    by true e more = h
+    by false e more = (fresh_more p.memref ps a e h.0, more)
 
 typed_more : (types : Name → Option MemrefType) (ps : List Planned) (a : Planned) → types a.memref ≡ Some (slow_type a.size) → Typed types ps → Typed types (note_access ps a)
 typed_more types [] a is h = (is, tt)
 typed_more types (p ∷ ps) a is h = by (same_name p.memref a.memref) (typed_more types ps a is h.1)
   where
-  by : (t : Bool) → Typed types (note_access ps a) → Typed types (if t then record { memref = p.memref; size = p.size; writes = p.writes || a.writes } ∷ ps else p ∷ note_access ps a)
-  by true more = h
-  by false more = (h.0, more)
+    by : (t : Bool) → Typed types (note_access ps a) → Typed types (if t then record { memref = p.memref; size = p.size; writes = p.writes || a.writes } ∷ ps else p ∷ note_access ps a)
+    by true more = h
+    by false more = (h.0, more)
 
 of_text_more : (own : Name → Bool) (ps : List Planned) (a : Planned) → own a.memref ≡ true → OfText own ps → OfText own (note_access ps a)
 of_text_more own [] a is h = (is, tt)
 of_text_more own (p ∷ ps) a is h = by (same_name p.memref a.memref) (of_text_more own ps a is h.1)
   where
-  by : (t : Bool) → OfText own (note_access ps a) → OfText own (if t then record { memref = p.memref; size = p.size; writes = p.writes || a.writes } ∷ ps else p ∷ note_access ps a)
-  by true more = h
-  by false more = (h.0, more)
+    by : (t : Bool) → OfText own (note_access ps a) → OfText own (if t then record { memref = p.memref; size = p.size; writes = p.writes || a.writes } ∷ ps else p ∷ note_access ps a)
+    by true more = h
+    by false more = (h.0, more)
 
 or_left : (a b : Bool) → a ≡ true → (a || b) ≡ true
 or_left true b h = refl
@@ -91,36 +86,36 @@ flag_more : (ps : List Planned) (a : Planned) (m : Name) → flag_of ps m ≡ tr
 flag_more [] a m h = cc
 flag_more (p ∷ ps) a m h = by (same_name p.memref a.memref) h (λ k. flag_more ps a m k)
   where
-  at : (u : Bool) → (if u then p.writes else flag_of ps m) ≡ true → (if u then p.writes || a.writes else flag_of ps m) ≡ true
-  at true k = or_left p.writes a.writes k
-  at false k = k
+    at : (u : Bool) → (if u then p.writes else flag_of ps m) ≡ true → (if u then p.writes || a.writes else flag_of ps m) ≡ true
+    at true k = or_left p.writes a.writes k
+    at false k = k
 
-  past : (u : Bool) → (if u then p.writes else flag_of ps m) ≡ true → (flag_of ps m ≡ true → flag_of (note_access ps a) m ≡ true) → (if u then p.writes else flag_of (note_access ps a) m) ≡ true
-  past true k more = k
-  past false k more = more k
+    past : (u : Bool) → (if u then p.writes else flag_of ps m) ≡ true → (flag_of ps m ≡ true → flag_of (note_access ps a) m ≡ true) → (if u then p.writes else flag_of (note_access ps a) m) ≡ true
+    past true k more = k
+    past false k more = more k
 
-  by : (t : Bool) → flag_of (p ∷ ps) m ≡ true → (flag_of ps m ≡ true → flag_of (note_access ps a) m ≡ true) → flag_of (if t then record { memref = p.memref; size = p.size; writes = p.writes || a.writes } ∷ ps else p ∷ note_access ps a) m ≡ true
-  by true k more = at (same_name p.memref m) k
-  by false k more = past (same_name p.memref m) k more
+    by : (t : Bool) → flag_of (p ∷ ps) m ≡ true → (flag_of ps m ≡ true → flag_of (note_access ps a) m ≡ true) → flag_of (if t then record { memref = p.memref; size = p.size; writes = p.writes || a.writes } ∷ ps else p ∷ note_access ps a) m ≡ true
+    by true k more = at (same_name p.memref m) k
+    by false k more = past (same_name p.memref m) k more
 
 -- a store writes its memref out
 flag_new : (ps : List Planned) (a : Planned) → a.writes ≡ true → flag_of (note_access ps a) a.memref ≡ true
 flag_new [] a h = ap (λ t. if t then a.writes else false) (same_name-refl a.memref) ∙ h
 flag_new (p ∷ ps) a h = by (same_name p.memref a.memref) refl (flag_new ps a h)
   where
-  by : (t : Bool) → same_name p.memref a.memref ≡ t → flag_of (note_access ps a) a.memref ≡ true
-      → flag_of (if t then record { memref = p.memref; size = p.size; writes = p.writes || a.writes } ∷ ps else p ∷ note_access ps a) a.memref ≡ true
-  by true e more = ap (λ t. if t then p.writes || a.writes else flag_of ps a.memref) e ∙ or_right p.writes a.writes h
-  by false e more = ap (λ t. if t then p.writes else flag_of (note_access ps a) a.memref) e ∙ more
+    by : (t : Bool) → same_name p.memref a.memref ≡ t → flag_of (note_access ps a) a.memref ≡ true
+        → flag_of (if t then record { memref = p.memref; size = p.size; writes = p.writes || a.writes } ∷ ps else p ∷ note_access ps a) a.memref ≡ true
+    by true e more = ap (λ t. if t then p.writes || a.writes else flag_of ps a.memref) e ∙ or_right p.writes a.writes h
+    by false e more = ap (λ t. if t then p.writes else flag_of (note_access ps a) a.memref) e ∙ more
 
 -- the plan grows by at most one memref a statement
 length_more : (ps : List Planned) (a : Planned) → length (note_access ps a) ≤ suc (length ps)
 length_more [] a = omega arith
 length_more (p ∷ ps) a = by (same_name p.memref a.memref) (length_more ps a)
   where
-  by : (t : Bool) → length (note_access ps a) ≤ suc (length ps) → length (if t then record { memref = p.memref; size = p.size; writes = p.writes || a.writes } ∷ ps else p ∷ note_access ps a) ≤ suc (length (p ∷ ps))
-  by true h = omega arith
-  by false h = omega (arith, h)
+    by : (t : Bool) → length (note_access ps a) ≤ suc (length ps) → length (if t then record { memref = p.memref; size = p.size; writes = p.writes || a.writes } ∷ ps else p ∷ note_access ps a) ≤ suc (length (p ∷ ps))
+    by true h = omega arith
+    by false h = omega (arith, h)
 
 length_note : (ps : List Planned) (o : Option Planned) → length (note ps o) ≤ suc (length ps)
 length_note ps (Some a) = length_more ps a
@@ -194,20 +189,20 @@ AllSlow types = (m : Name) (ty : MemrefType) → types m ≡ Some ty → ty ≡ 
 slow_more : (types : Name → Option MemrefType) (name : Name) (ty : MemrefType) → ty ≡ slow_type (first_size ty.sizes) → AllSlow types → AllSlow (put types name (Some ty))
 slow_more types name ty is h m uy e = by (same_name name m) refl
   where
-  by : (t : Bool) → same_name name m ≡ t → uy ≡ slow_type (first_size uy.sizes)
-  by true t =
-      let k : Some ty ≡ Some uy = sym (put-same types name (Some ty) m t) ∙ e in
-      let u : ty ≡ uy = cc in
-      subst (λ (u : MemrefType). u ≡ slow_type (first_size u.sizes)) u is
-  by false t = h m uy (sym (put-other types name (Some ty) m t) ∙ e)
+    by : (t : Bool) → same_name name m ≡ t → uy ≡ slow_type (first_size uy.sizes)
+    by true t =
+        let k : Some ty ≡ Some uy = sym (put-same types name (Some ty) m t) ∙ e in
+        let u : ty ≡ uy = cc in
+        subst (λ (u : MemrefType). u ≡ slow_type (first_size u.sizes)) u is
+    by false t = h m uy (sym (put-other types name (Some ty) m t) ∙ e)
 
 slow_kind : (types : Name → Option MemrefType) (name : Name) (kind : ArgKind) (line size : ℕ) → kind ≡ Memref (slow_type size) → AllSlow types → AllSlow (note_type types (record { name = name; kind = kind; line = line }))
 slow_kind types name (Memref ty) line size is h =
     let e : ty ≡ slow_type size = memref_type is in
     slow_more types name ty (subst (λ (u : MemrefType). u ≡ slow_type (first_size u.sizes)) (sym e) refl) h
   where
-  memref_type : {a b : MemrefType} → Memref a ≡ Memref b → a ≡ b
-  memref_type h = cc
+    memref_type : {a b : MemrefType} → Memref a ≡ Memref b → a ≡ b
+    memref_type h = cc
 slow_kind types name (Index range) line size is h = h
 
 pub slow_args : (own : Name → Bool) (args : List Arg) (types : Name → Option MemrefType) → All (IsFirstArg own) args → AllSlow types → AllSlow (fold note_type types args)
@@ -219,5 +214,5 @@ slow_args own (a ∷ args) types f h =
 pub slow_none : AllSlow (λ n. None)
 slow_none m ty e = absurd (none ty e)
   where
-  none : (ty : MemrefType) → None ≡ Some ty → ⊥
-  none ty e = cc
+    none : (ty : MemrefType) → None ≡ Some ty → ⊥
+    none ty e = cc

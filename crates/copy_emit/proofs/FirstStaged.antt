@@ -1,6 +1,6 @@
 -- The staged memrefs of the first form's plan, with their names, are a plan of the theorem.
-use Rattle.std.proofs.Common.{◌≡◌, ◌≢◌, ℕ, zero, suc, ◌+◌, ◌*◌, ◌^◌, ◌<◌, ◌≤◌, ℤ, List, [], ◌∷◌, ◌++◌, length, refl, sym, ap, ◌∙◌, subst, arith, Bool, true, false}
-use Rattle.std.specs.Prelude.{not, All, AllPairs, fold, sum_by, Option, Some, None, if◌then◌else◌, codes, decimal}
+use Rattle.std.proofs.Common.{◌≡◌, ◌≢◌, ℕ, ◌+◌, ◌*◌, ◌^◌, ◌<◌, ◌≤◌, List, [], ◌∷◌, ◌++◌, length, refl, sym, ap, ◌∙◌, subst, arith, Bool, true, false}
+use Rattle.std.specs.Prelude.{All, AllPairs, fold, sum_by, Option, None, if◌then◌else◌, codes, decimal}
 use Rattle.std.proofs.lemmas.List.Sums.{sum_by-cons}
 use Rattle.std.proofs.lemmas.Fmt.{decimal_injective}
 use Rattle.affine_ast.specs.declared.name.Name.{Name}
@@ -11,11 +11,11 @@ use Rattle.affine_ast.specs.declared.stmt.What as what
 use Rattle.affine_ast.specs.declared.stmt.What.{What}
 use Rattle.affine_ast.specs.Names.{same_name}
 use Rattle.affine_ast.proofs.Names.{same_name-eq, same_name-is}
-use Rattle.copy_emit.specs.Template.{Staged, FirstLoop, slow_type}
+use Rattle.copy_emit.specs.Template.{Staged, FirstLoop}
 use Rattle.copy_emit.specs.FirstForm.{arg_types, IsFirstForm, HasMadeNames, IsStagedArg, WritesOut, IsPlan}
-use Rattle.copy_emit.specs.FirstPlan.{Planned, note_stmt, first_plan, written_out, numbered_one, numbered_from, numbered, copy_name, of_text, arg_elements, first_staged, other_letters, PlanAgrees, FirstPlanAgrees, PrintedPlanAgrees}
-use Rattle.copy_emit.proofs.Every.{all_head, all_tail, all_cons, all_nil, pairs_cons, pairs_nil}
-use Rattle.copy_emit.proofs.FirstPlans.{Fresh, Distinct, Typed, OfText, flag_of, Flagged, AllSlow, distinct_all, all_flagged, Sound, sound_all, slow_args, slow_none, length_all}
+use Rattle.copy_emit.specs.FirstPlan.{Planned, note_stmt, first_plan, written_out, numbered_one, numbered_from, copy_name, of_text, arg_elements, first_staged, other_letters, PlanAgrees, FirstPlanAgrees, PrintedPlanAgrees}
+use Rattle.copy_emit.proofs.Every.{all_cons, all_nil, pairs_cons, pairs_nil}
+use Rattle.copy_emit.proofs.FirstPlans.{Fresh, Distinct, Typed, OfText, flag_of, Flagged, distinct_all, all_flagged, sound_all, slow_args, slow_none, length_all}
 use Rattle.copy_emit.proofs.FirstTotals.{total_of, plan_fits}
 use Rattle.copy_emit.proofs.Theorem.{theorem}
 
@@ -23,14 +23,14 @@ use Rattle.copy_emit.proofs.Theorem.{theorem}
 pub names_differ : (is_made : Bool) (j k : ℕ) → j < 2 ^ 64 → k < 2 ^ 64 → j ≢ k → same_name (copy_name is_made j) (copy_name is_made k) ≡ false
 names_differ is_made j k a b ne = by (same_name (copy_name is_made j) (copy_name is_made k)) refl
   where
-  tail_of : (xs ys : List ℕ) → codes "copy" ++ xs ≡ codes "copy" ++ ys → xs ≡ ys
-  tail_of xs ys e = cc
+    tail_of : (xs ys : List ℕ) → codes "copy" ++ xs ≡ codes "copy" ++ ys → xs ≡ ys
+    tail_of xs ys e = cc
 
-  by : (t : Bool) → same_name (copy_name is_made j) (copy_name is_made k) ≡ t → same_name (copy_name is_made j) (copy_name is_made k) ≡ false
-  by true e =
-      let text : codes "copy" ++ decimal j ≡ codes "copy" ++ decimal k = ap (λ (n : Name). n.text) (same_name-eq (copy_name is_made j) (copy_name is_made k) e) in
-      absurd (ne (decimal_injective j k a b (tail_of (decimal j) (decimal k) text)))
-  by false e = e
+    by : (t : Bool) → same_name (copy_name is_made j) (copy_name is_made k) ≡ t → same_name (copy_name is_made j) (copy_name is_made k) ≡ false
+    by true e =
+        let text : codes "copy" ++ decimal j ≡ codes "copy" ++ decimal k = ap (λ (n : Name). n.text) (same_name-eq (copy_name is_made j) (copy_name is_made k) e) in
+        absurd (ne (decimal_injective j k a b (tail_of (decimal j) (decimal k) text)))
+    by false e = e
 
 module _ (own : Name → Bool) (is_made : Bool) (apart : (k : ℕ) → own (copy_name is_made k) ≡ false) (total : ℕ) where
   abbrev staged_from : ℕ → List Planned → List Staged
@@ -42,20 +42,23 @@ module _ (own : Name → Bool) (is_made : Bool) (apart : (k : ℕ) → own (copy
       let fewer = written_less ps in
       all_cons (HasMadeNames own) _ (staged_from (next + 3) ps)
       (record {
-        fast = apart next; in_turn = apart (next + 1); in_value = apart (next + 2);
+        fast = apart next;
+        in_turn = apart (next + 1);
+        in_value = apart (next + 2);
         in_apart = names_differ is_made (next + 2) (next + 1) (omega (arith, h)) (omega (arith, h)) (λ e. omega (arith, e));
-        out_turn = apart (total + 2 * written_out ps); out_value = apart (total + 2 * written_out ps + 1);
+        out_turn = apart (total + 2 * written_out ps);
+        out_value = apart (total + 2 * written_out ps + 1);
         out_apart = names_differ is_made (total + 2 * written_out ps + 1) (total + 2 * written_out ps) (omega (arith, k, fewer)) (omega (arith, k, fewer)) (λ e. omega (arith, e));
       })
       (made_names (next + 3) ps (omega (arith, h)) (omega (arith, k)))
     where
-    written_less : (ps : List Planned) → written_out ps ≤ length ps
-    written_less [] = omega arith
-    written_less (p ∷ ps) = one p.writes (written_less ps)
-      where
-      one : (t : Bool) → written_out ps ≤ length ps → (if t then 1 else 0) + written_out ps ≤ length (p ∷ ps)
-      one true h = omega (arith, h)
-      one false h = omega (arith, h)
+      written_less : (ps : List Planned) → written_out ps ≤ length ps
+      written_less [] = omega arith
+      written_less (p ∷ ps) = one p.writes (written_less ps)
+        where
+          one : (t : Bool) → written_out ps ≤ length ps → (if t then 1 else 0) + written_out ps ≤ length (p ∷ ps)
+          one true h = omega (arith, h)
+          one false h = omega (arith, h)
 
   staged_args : (types : Name → Option MemrefType) (next : ℕ) (ps : List Planned) → Typed types ps → OfText own ps → All (IsStagedArg own types) (staged_from next ps)
   staged_args types next [] h k = all_nil (IsStagedArg own types)
@@ -100,17 +103,17 @@ module _ (own : Name → Bool) (is_made : Bool) (apart : (k : ℕ) → own (copy
   flagged_staged m next [] d h = all_nil (λ (s : Staged). same_name s.memref m ≡ true → s.writes ≡ true)
   flagged_staged m next (p ∷ ps) d h = by (same_name p.memref m) refl h (λ k. flagged_staged m (next + 3) ps d.1 k)
     where
-    by : (t : Bool) → same_name p.memref m ≡ t → (if same_name p.memref m then p.writes else flag_of ps m) ≡ true
-        → (flag_of ps m ≡ true → All (λ (s : Staged). same_name s.memref m ≡ true → s.writes ≡ true) (staged_from (next + 3) ps))
-        → All (λ (s : Staged). same_name s.memref m ≡ true → s.writes ≡ true) (staged_from next (p ∷ ps))
-    by true e k more =
-        all_cons (λ (s : Staged). same_name s.memref m ≡ true → s.writes ≡ true) _ (staged_from (next + 3) ps)
-        (λ u. sym (ap (λ t. if t then p.writes else flag_of ps m) e) ∙ k)
-        (none_here m (next + 3) ps (subst (λ n. Fresh n ps) (same_name-eq p.memref m e) d.0))
-    by false e k more =
-        all_cons (λ (s : Staged). same_name s.memref m ≡ true → s.writes ≡ true) _ (staged_from (next + 3) ps)
-        (λ u. let z : false ≡ true = sym e ∙ u in absurd (cc))
-        (more (sym (ap (λ t. if t then p.writes else flag_of ps m) e) ∙ k))
+      by : (t : Bool) → same_name p.memref m ≡ t → (if same_name p.memref m then p.writes else flag_of ps m) ≡ true
+          → (flag_of ps m ≡ true → All (λ (s : Staged). same_name s.memref m ≡ true → s.writes ≡ true) (staged_from (next + 3) ps))
+          → All (λ (s : Staged). same_name s.memref m ≡ true → s.writes ≡ true) (staged_from next (p ∷ ps))
+      by true e k more =
+          all_cons (λ (s : Staged). same_name s.memref m ≡ true → s.writes ≡ true) _ (staged_from (next + 3) ps)
+          (λ u. sym (ap (λ t. if t then p.writes else flag_of ps m) e) ∙ k)
+          (none_here m (next + 3) ps (subst (λ n. Fresh n ps) (same_name-eq p.memref m e) d.0))
+      by false e k more =
+          all_cons (λ (s : Staged). same_name s.memref m ≡ true → s.writes ≡ true) _ (staged_from (next + 3) ps)
+          (λ u. let z : false ≡ true = sym e ∙ u in absurd (cc))
+          (more (sym (ap (λ t. if t then p.writes else flag_of ps m) e) ∙ k))
 
   writes_what : (next : ℕ) (ps : List Planned) (w : What) → Distinct ps → Flagged ps w → WritesOut own (staged_from next ps) w
   writes_what next ps (what.Store x m at ty) d h = flagged_staged m next ps d h

@@ -1,8 +1,7 @@
 -- Different arguments have no more elements than all arguments together.
-use Rattle.std.proofs.Common.{◌≡◌, ℕ, zero, suc, ◌+◌, ◌*◌, ◌≤◌, ℤ, List, [], ◌∷◌, refl, sym, ap, ◌∙◌, subst, arith, Bool, true, false}
+use Rattle.std.proofs.Common.{◌≡◌, ℕ, ◌+◌, ◌*◌, ◌≤◌, List, [], ◌∷◌, refl, sym, ap, ◌∙◌, subst, arith, Bool, true, false}
 use Rattle.std.specs.Prelude.{fold, sum_by, Option, Some, None, if◌then◌else◌}
 use Rattle.std.proofs.lemmas.List.Sums.{sum_by-cons}
-use Rattle.affine_expr.specs.declared.map.Interval.{Interval}
 use Rattle.affine_ast.specs.declared.name.Name.{Name}
 use Rattle.affine_ast.specs.declared.module.Arg.{Arg}
 use Rattle.affine_ast.specs.declared.module.ArgKind.{ArgKind}
@@ -29,17 +28,17 @@ fresh_removed : (n m : Name) (ps : List Planned) → Fresh n ps → Fresh n (rem
 fresh_removed n m [] h = tt
 fresh_removed n m (p ∷ ps) h = by (same_name m p.memref) (fresh_removed n m ps h.1)
   where
-  by : (t : Bool) → Fresh n (removed m ps) → Fresh n (if t then removed m ps else p ∷ removed m ps)
-  by true more = more
-  by false more = (h.0, more)
+    by : (t : Bool) → Fresh n (removed m ps) → Fresh n (if t then removed m ps else p ∷ removed m ps)
+    by true more = more
+    by false more = (h.0, more)
 
 distinct_removed : (m : Name) (ps : List Planned) → Distinct ps → Distinct (removed m ps)
 distinct_removed m [] h = tt
 distinct_removed m (p ∷ ps) h = by (same_name m p.memref) (distinct_removed m ps h.1)
   where
-  by : (t : Bool) → Distinct (removed m ps) → Distinct (if t then removed m ps else p ∷ removed m ps)
-  by true more = more
-  by false more = (fresh_removed p.memref m ps h.0, more)
+    by : (t : Bool) → Distinct (removed m ps) → Distinct (if t then removed m ps else p ∷ removed m ps)
+    by true more = more
+    by false more = (fresh_removed p.memref m ps h.0, more)
 
 -- nothing is removed where the name stands nowhere
 fresh_same : (m : Name) (ps : List Planned) → Fresh m ps → removed m ps ≡ ps
@@ -54,22 +53,22 @@ module _ (types : Name → Option MemrefType) (name : Name) (ty : MemrefType) wh
   typed_removed [] h = tt
   typed_removed (p ∷ ps) h = by (same_name name p.memref) refl (typed_removed ps h.1)
     where
-    by : (t : Bool) → same_name name p.memref ≡ t → Typed types (removed name ps) → Typed types (if t then removed name ps else p ∷ removed name ps)
-    by true e more = more
-    by false e more = (sym (put-other types name (Some ty) p.memref e) ∙ h.0, more)
+      by : (t : Bool) → same_name name p.memref ≡ t → Typed types (removed name ps) → Typed types (if t then removed name ps else p ∷ removed name ps)
+      by true e more = more
+      by false e more = (sym (put-other types name (Some ty) p.memref e) ∙ h.0, more)
 
   one_less : (ps : List Planned) → Distinct ps → Typed types' ps → total_of ps ≤ product ty.sizes + total_of (removed name ps)
   one_less [] d h = omega arith
   one_less (p ∷ ps) d h = by (same_name name p.memref) refl (one_less ps d.1 h.1)
     where
-    by : (t : Bool) → same_name name p.memref ≡ t → total_of ps ≤ product ty.sizes + total_of (removed name ps) → p.size + total_of ps ≤ product ty.sizes + total_of (if t then removed name ps else p ∷ removed name ps)
-    by true e more =
-        let k : Some ty ≡ Some (slow_type p.size) = sym (put-same types name (Some ty) p.memref e) ∙ h.0 in
-        let u : ty ≡ slow_type p.size = cc in
-        let size : product ty.sizes ≡ p.size * 1 = ap (λ (u : MemrefType). product u.sizes) u in
-        let rest : total_of (removed name ps) ≡ total_of ps = ap total_of (fresh_same name ps (subst (λ n. Fresh n ps) (sym (same_name-eq name p.memref e)) d.0)) in
-        omega (arith, size, rest)
-    by false e more = omega (arith, more)
+      by : (t : Bool) → same_name name p.memref ≡ t → total_of ps ≤ product ty.sizes + total_of (removed name ps) → p.size + total_of ps ≤ product ty.sizes + total_of (if t then removed name ps else p ∷ removed name ps)
+      by true e more =
+          let k : Some ty ≡ Some (slow_type p.size) = sym (put-same types name (Some ty) p.memref e) ∙ h.0 in
+          let u : ty ≡ slow_type p.size = cc in
+          let size : product ty.sizes ≡ p.size * 1 = ap (λ (u : MemrefType). product u.sizes) u in
+          let rest : total_of (removed name ps) ≡ total_of ps = ap total_of (fresh_same name ps (subst (λ n. Fresh n ps) (sym (same_name-eq name p.memref e)) d.0)) in
+          omega (arith, size, rest)
+      by false e more = omega (arith, more)
 
 -- a bound on the elements of different memrefs of these types
 abbrev Bounded : (Name → Option MemrefType) → ℕ → Type 0
@@ -92,8 +91,8 @@ none_bounded : Bounded (λ n. None) 0
 none_bounded [] d t = omega arith
 none_bounded (p ∷ ps) d t = absurd (none (slow_type p.size) t.0)
   where
-  none : (ty : MemrefType) → None ≡ Some ty → ⊥
-  none ty e = cc
+    none : (ty : MemrefType) → None ≡ Some ty → ⊥
+    none ty e = cc
 
 pub plan_fits : (args : List Arg) (ps : List Planned) → Distinct ps → Typed (arg_types args) ps → total_of ps ≤ sum_by arg_elements args
 unfolding arg_types

@@ -1,12 +1,11 @@
 -- Actions whose slow places were moved to cells of fast memory do what the original ones do. No syntax is involved, and
 -- nothing is said of ranks, boxes or how many memrefs there are.
-use Rattle.std.proofs.Common.{◌≡◌, ◌≢◌, ℕ, suc, ◌+◌, ◌<◌, ◌≤◌, ◌⊎◌, inl, inr, ℤ, pos, List, [], ◌∷◌, length, length-set, get_or, refl, sym, ap, ◌∙◌, subst, arith, Bool, true, false, map}
-use Rattle.std.specs.Prelude.{◌&&◌, Option, Some, None, nat_eq, slice_index_or, slice_set}
+use Rattle.std.proofs.Common.{◌≡◌, ◌≢◌, ℕ, suc, ◌<◌, ◌≤◌, ◌⊎◌, inl, inr, ℤ, pos, List, [], ◌∷◌, length, length-set, get_or, refl, sym, ap, ◌∙◌, subst, arith, Bool, true, false, map}
+use Rattle.std.specs.Prelude.{◌&&◌, Option, Some, None, nat_eq, slice_set}
 use Rattle.std.proofs.lemmas.List.{get_or-set_same, get_or-set_other}
 use Rattle.std.proofs.lemmas.Bool.{eqb-true, eqb-false, eq-eqb, and_parts, cases_lt}
 use Rattle.std.proofs.lemmas.Grind.{common_steps}
 use Rattle.affine_ast.specs.declared.name.Name.{Name}
-use Rattle.affine_ast.specs.Names.{put}
 use Rattle.affine_ast.proofs.Names.{put-both}
 use Rattle.int_ops.specs.Operation.{operation}
 use Rattle.int_ops.specs.Cast.{cast_value}
@@ -122,7 +121,13 @@ module _ (own : Name → Bool) where
       kept : (d : State) (y : Device) (r : Name) (z z' : ℤ) → z ≡ z' → R d y → R (keep r z d) (record y { state = keep r z' y.state })
       kept d y r z z' e s = record {
         registers = λ n h. put-both d.registers y.state.registers r z z' n e (s.registers n h);
-        slow = s.slow; room = s.room; fast = s.fast; direct_long = s.direct_long; long = s.long; has_level = s.has_level; idle = s.idle;
+        slow = s.slow;
+        room = s.room;
+        fast = s.fast;
+        direct_long = s.direct_long;
+        long = s.long;
+        has_level = s.has_level;
+        idle = s.idle;
       }
 
       not_refused : (b : Bool) (k : FaultKind) (y : Device) (go : Outcome Device) → b ≡ false → refused b k y go ≡ go
@@ -156,8 +161,8 @@ module _ (own : Name → Bool) where
         room' q b true t e =
             let two = and_parts (nat_eq c.number b.number) (nat_eq c.half b.half) t in
             let long = ap length (half_same y.halves c.number c.half b.number b.half (slice_set (y.halves c.number c.half) c.cell z') t)
-                ∙ length-set (y.halves c.number c.half) c.cell z'
-                ∙ (λ i. length (y.halves (eqb-true c.number b.number two.0 i) (eqb-true c.half b.half two.1 i))) in
+            ∙ length-set (y.halves c.number c.half) c.cell z'
+            ∙ (λ i. length (y.halves (eqb-true c.number b.number two.0 i) (eqb-true c.half b.half two.1 i))) in
             subst (λ n. b.cell < n) (sym long) (s.room q b e)
         room' q b false t e = subst (λ l. b.cell < length l) (sym (half_other y.halves c.number c.half b.number b.half _ t)) (s.room q b e)
 
@@ -196,12 +201,12 @@ module _ (own : Name → Bool) where
             ∙ s.fast q b e
             ∙ sym (other_place d.slow p q z (elsewhere q b e (λ k. apart b t k)))
           where
-          apart : (b : Cell) → (nat_eq c.number b.number && nat_eq c.half b.half) ≡ false → c ≡ b → ⊥
-          apart b t k =
-              let n : nat_eq c.number b.number ≡ true = eq-eqb c.number b.number (ap (λ c. c.number) k) in
-              let h : nat_eq c.half b.half ≡ true = eq-eqb c.half b.half (ap (λ c. c.half) k) in
-              let both : (nat_eq c.number b.number && nat_eq c.half b.half) ≡ true = λ i. n i && h i in
-              cc
+            apart : (b : Cell) → (nat_eq c.number b.number && nat_eq c.half b.half) ≡ false → c ≡ b → ⊥
+            apart b t k =
+                let n : nat_eq c.number b.number ≡ true = eq-eqb c.number b.number (ap (λ c. c.number) k) in
+                let h : nat_eq c.half b.half ≡ true = eq-eqb c.half b.half (ap (λ c. c.half) k) in
+                let both : (nat_eq c.number b.number && nat_eq c.half b.half) ≡ true = λ i. n i && h i in
+                cc
 
         store_fast : stale p ≡ true → R (write p z d) (record y { halves = halves' })
         store_fast old = record {
@@ -210,11 +215,13 @@ module _ (own : Name → Bool) where
           room = λ q b e. room' q b (nat_eq c.number b.number && nat_eq c.half b.half) refl e;
           fast = λ q b e. fast' q b (nat_eq c.number b.number && nat_eq c.half b.half) refl e;
           direct_long = length-set d.slow p z ∙ s.direct_long;
-          long = s.long; has_level = s.has_level; idle = s.idle;
+          long = s.long;
+          has_level = s.has_level;
+          idle = s.idle;
         }
           where
-          cases : (q : ℕ) → stale q ≡ false → q ≡ p → ⊥
-          cases q h e = let k : stale q ≡ true = ap stale e ∙ old in cc
+            cases : (q : ℕ) → stale q ≡ false → q ≡ p → ⊥
+            cases q h e = let k : stale q ≡ true = ap stale e ∙ old in cc
 
       both_set : (xs ys : List ℤ) (p q : ℕ) (z z' : ℤ) (t : Bool) → nat_eq q p ≡ t → length xs ≡ length ys → z ≡ z' → get_or xs q (pos 0) ≡ get_or ys q (pos 0)
           → get_or (slice_set xs p z) q (pos 0) ≡ get_or (slice_set ys p z') q (pos 0)
@@ -222,15 +229,15 @@ module _ (own : Name → Bool) where
           let k = eqb-true q p t in
           subst (λ j. get_or (slice_set xs p z) j (pos 0) ≡ get_or (slice_set ys p z') j (pos 0)) (sym k) (here xs ys p z z' long same (subst (λ j. get_or xs j (pos 0) ≡ get_or ys j (pos 0)) k e))
         where
-        here : (xs ys : List ℤ) (p : ℕ) (z z' : ℤ) → length xs ≡ length ys → z ≡ z' → get_or xs p (pos 0) ≡ get_or ys p (pos 0) → get_or (slice_set xs p z) p (pos 0) ≡ get_or (slice_set ys p z') p (pos 0)
-        here xs ys p z z' long same e = by_case (cases_lt p (length xs))
-          where
-          past : (l : List ℤ) (i : ℕ) (y : ℤ) → length l ≤ i → get_or (slice_set l i y) i (pos 0) ≡ pos 0
-          past l i y h = grind (arith, common_steps, h, length-set l i y)
+          here : (xs ys : List ℤ) (p : ℕ) (z z' : ℤ) → length xs ≡ length ys → z ≡ z' → get_or xs p (pos 0) ≡ get_or ys p (pos 0) → get_or (slice_set xs p z) p (pos 0) ≡ get_or (slice_set ys p z') p (pos 0)
+          here xs ys p z z' long same e = by_case (cases_lt p (length xs))
+            where
+              past : (l : List ℤ) (i : ℕ) (y : ℤ) → length l ≤ i → get_or (slice_set l i y) i (pos 0) ≡ pos 0
+              past l i y h = grind (arith, common_steps, h, length-set l i y)
 
-          by_case : (p < length xs) ⊎ (length xs ≤ p) → get_or (slice_set xs p z) p (pos 0) ≡ get_or (slice_set ys p z') p (pos 0)
-          by_case (inl h) = get_or-set_same xs p z (pos 0) h ∙ same ∙ sym (get_or-set_same ys p z' (pos 0) (subst (λ n. p < n) long h))
-          by_case (inr h) = past xs p z h ∙ sym (past ys p z' (subst (λ n. n ≤ p) long h))
+              by_case : (p < length xs) ⊎ (length xs ≤ p) → get_or (slice_set xs p z) p (pos 0) ≡ get_or (slice_set ys p z') p (pos 0)
+              by_case (inl h) = get_or-set_same xs p z (pos 0) h ∙ same ∙ sym (get_or-set_same ys p z' (pos 0) (subst (λ n. p < n) long h))
+              by_case (inr h) = past xs p z h ∙ sym (past ys p z' (subst (λ n. n ≤ p) long h))
       both_set xs ys p q z z' false t long same e =
           let ne = eqb-false q p t in
           get_or-set_other xs p q z (pos 0) ne ∙ e ∙ sym (get_or-set_other ys p q z' (pos 0) ne)
@@ -243,11 +250,12 @@ module _ (own : Name → Bool) where
         fast = λ q b e. s.fast q b e ∙ sym (other_place d.slow p q z (λ h. not_here q b e h));
         direct_long = length-set d.slow p z ∙ s.direct_long;
         long = length-set y.state.slow p z' ∙ s.long;
-        has_level = s.has_level; idle = s.idle;
+        has_level = s.has_level;
+        idle = s.idle;
       }
         where
-        not_here : (q : ℕ) (b : Cell) → rho q ≡ Some b → q ≡ p → ⊥
-        not_here q b e h = let k : Some b ≡ None = sym e ∙ ap rho h ∙ none in cc
+          not_here : (q : ℕ) (b : Cell) → rho q ≡ Some b → q ≡ p → ⊥
+          not_here q b e h = let k : Some b ≡ None = sym e ∙ ap rho h ∙ none in cc
 
       store_at : (p : ℕ) (o : Option Cell) (z z' : ℤ) (d : State) (y : Device) → rho p ≡ o → z ≡ z' → ((c : Cell) → rho p ≡ Some c → stale p ≡ true) → R d y
           → Ends R (direct_store z (Slow p) d) (prompt_store z' (moved_to p o) y)

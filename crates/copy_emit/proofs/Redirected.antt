@@ -1,10 +1,8 @@
 -- The redirected statements' actions are the statements' actions, moved. No memory is involved.
-use Rattle.std.proofs.Common.{◌≡◌, ◌≢◌, ℕ, zero, suc, ◌+◌, ◌*◌, ◌<◌, ◌≤◌, ℤ, pos, negsuc, List, [], ◌∷◌, ◌++◌, refl, sym, ap, ◌∙◌, subst, arith, Bool, true, false, map}
-use mathlib.Core.Path.{fun_ext}
+use Rattle.std.proofs.Common.{◌≡◌, ℕ, ◌+◌, ◌*◌, ◌<◌, ℤ, pos, negsuc, List, [], ◌∷◌, refl, sym, ap, ◌∙◌, subst, arith, Bool, true, false, map}
 use Rattle.std.specs.Prelude.{All, Option, Some, None, nat_lt, if◌then◌else◌, take, drop}
 use Rattle.std.proofs.lemmas.Bool.{ltb-true}
 use Rattle.affine_expr.specs.Value.{value}
-use Rattle.affine_expr.specs.declared.expr.Expr.{Const}
 use Rattle.affine_expr.proofs.Values.{value-Const}
 use Rattle.affine_ast.specs.declared.name.Name.{Name}
 use Rattle.affine_ast.specs.declared.types.Access.{Access}
@@ -14,12 +12,12 @@ use Rattle.affine_ast.specs.declared.types.Scalar.TheVariants as scalar
 use Rattle.affine_ast.specs.declared.stmt.Stmt.{Stmt}
 use Rattle.affine_ast.specs.declared.stmt.What as what
 use Rattle.affine_ast.specs.declared.stmt.What.{What}
-use Rattle.affine_ast.specs.Names.{same_name, put}
-use Rattle.affine_ast.specs.Nest.{Plain, Nest, Nothing, Loop, Does, Value, Load, Store, Constant, Binary, nest, put_what}
+use Rattle.affine_ast.specs.Names.{same_name}
+use Rattle.affine_ast.specs.Nest.{Plain, Nest, Does, Load, Store, Constant, Binary, nest, put_what}
 use Rattle.affine_ast.proofs.Names.{put-both}
 use Rattle.affine_ast.proofs.Nests.{nest-nil, nest-cons, put-Load, put-Store, put-Constant, put-Binary}
 use Rattle.int_ops.specs.declared.operation.Op.{Op}
-use Rattle.nest_meaning.specs.Action.{Home, SlowMemref, FastMemref, Place, Slow, Fast, Outside, Operand, Number, Register, Action, Sets, Loads, Stores, Operates}
+use Rattle.nest_meaning.specs.Action.{Home, SlowMemref, FastMemref, Place, Loads, Stores, Operates}
 use Rattle.nest_meaning.specs.Static.{Env, knows, forgets, number, operand_of, operand, numbers, results_of, product, within, row_major, cell_in, slow_at, fast_at, half_place, place_at, place_of, scalar_bits}
 use Rattle.nest_meaning.specs.Actions.{action_of, after_plain, actions}
 use Rattle.nest_meaning.proofs.Laws.{actions-Nothing, actions-Does}
@@ -165,9 +163,9 @@ module _ (own : Name → Bool) where
     own_load : (e : Env) (m : Name) (at : Access) (ty : MemrefType) → e.home ≡ homes → IsPlaced m ty.sizes → OwnLoad own (place_of e m at ty)
     own_load e m at ty is p = subst (OwnLoad own) (sym (slow_place e homes m at ty p.order p.first is p.here)) (slow (cell_in ty.sizes (results_of e at)))
       where
-      slow : (o : Option ℕ) → OwnLoad own (slow_at p.first o)
-      slow (Some k) = tt
-      slow None = tt
+        slow : (o : Option ℕ) → OwnLoad own (slow_at p.first o)
+        slow (Some k) = tt
+        slow None = tt
 
     own_store : (e : Env) (m : Name) (at : Access) (ty : MemrefType) (o : Option Name) → e.home ≡ homes → (p : IsPlaced m ty.sizes) → fast_of ss m ≡ o → ((f : Name) → o ≡ Some f → writes_of ss m ≡ true)
         → OwnStore own rho stale (place_of e m at ty)
@@ -175,13 +173,13 @@ module _ (own : Name → Bool) where
         subst (OwnStore own rho stale) (sym (slow_place e homes m at ty p.order p.first is p.here))
         (slow (cell_in ty.sizes (results_of e at)) (λ k q. cell_less ty.sizes (results_of e at) k q) o by flag)
       where
-      none_is_none : (c : Cell) (k : ℕ) → rho (p.first + k) ≡ None → rho (p.first + k) ≡ Some c → ⊥
-      none_is_none c k a b = let e : None ≡ Some c = sym a ∙ b in cc
+        none_is_none : (c : Cell) (k : ℕ) → rho (p.first + k) ≡ None → rho (p.first + k) ≡ Some c → ⊥
+        none_is_none c k a b = let e : None ≡ Some c = sym a ∙ b in cc
 
-      slow : (c : Option ℕ) → ((k : ℕ) → c ≡ Some k → k < product ty.sizes) → (o : Option Name) → fast_of ss m ≡ o → ((f : Name) → o ≡ Some f → writes_of ss m ≡ true) → OwnStore own rho stale (slow_at p.first c)
-      slow (Some k) less (Some f) by flag = λ b q. p.old k (less k refl) ∙ flag f refl
-      slow (Some k) less None by flag = λ b q. absurd (none_is_none b k (subst (λ o. Leads o p.first (product ty.sizes)) by p.leads k (less k refl)) q)
-      slow None less o by flag = tt
+        slow : (c : Option ℕ) → ((k : ℕ) → c ≡ Some k → k < product ty.sizes) → (o : Option Name) → fast_of ss m ≡ o → ((f : Name) → o ≡ Some f → writes_of ss m ≡ true) → OwnStore own rho stale (slow_at p.first c)
+        slow (Some k) less (Some f) by flag = λ b q. p.old k (less k refl) ∙ flag f refl
+        slow (Some k) less None by flag = λ b q. absurd (none_is_none b k (subst (λ o. Leads o p.first (product ty.sizes)) by p.leads k (less k refl)) q)
+        slow None less o by flag = tt
 
     -- a name's number, where both know it alike
     forget_both : (e g : Env) (r : Name) → Knows e g → Knows (forgets e r) (forgets g r)

@@ -1,7 +1,7 @@
 -- The staged module does what the module does.
-use Rattle.std.proofs.Common.{◌≡◌, ◌≢◌, ℕ, zero, suc, ◌+◌, ◌-◌, ◌*◌, ◌<◌, ◌≤◌, ◌⊎◌, inl, inr, ℤ, pos, List, [], ◌∷◌, ◌++◌, length, get_or, refl, sym, ap, ◌∙◌, subst, arith, Bool, true, false, map}
-use Rattle.std.specs.Prelude.{flat_map, reverse, All, AllPairs, sum_by, Option, Some, None, nat_le, if◌then◌else◌}
-use Rattle.std.proofs.lemmas.List.{append_assoc, append-nil, map-append, ext_get_or}
+use Rattle.std.proofs.Common.{◌≡◌, ℕ, suc, ◌+◌, ◌*◌, ◌<◌, ◌≤◌, ◌⊎◌, inl, inr, ℤ, pos, List, [], ◌∷◌, ◌++◌, refl, sym, ap, ◌∙◌, subst, arith, Bool, true, false, map}
+use Rattle.std.specs.Prelude.{flat_map, All, AllPairs, sum_by, Option, Some, None, nat_le, if◌then◌else◌}
+use Rattle.std.proofs.lemmas.List.{append-nil, map-append}
 use Rattle.std.proofs.lemmas.List.Sums.{sum_by-cons}
 use Rattle.std.proofs.lemmas.Bool.{le-leb}
 use Rattle.affine_ast.specs.declared.name.Name.{Name}
@@ -11,11 +11,11 @@ use Rattle.affine_ast.specs.declared.types.MemrefType.{MemrefType}
 use Rattle.affine_ast.specs.declared.stmt.Stmt.{Stmt}
 use Rattle.affine_ast.specs.declared.stmt.What as what
 use Rattle.affine_ast.specs.Names.{same_name, put}
-use Rattle.affine_ast.specs.Nest.{Plain, Nest, Nothing, Loop, Does, Alloc, Return, nest, followed_by}
+use Rattle.affine_ast.specs.Nest.{Plain, Loop, Alloc, nest}
 use Rattle.affine_ast.proofs.Names.{same_name-eq, same_name-refl, same_name-is, put-same, put-other}
 use Rattle.affine_ast.proofs.Nests.{nest-nil, nest-cons, nest-append, put-For}
 use Rattle.nest_meaning.specs.Turns.{turns}
-use Rattle.nest_meaning.specs.Action.{Home, SlowMemref, FastMemref, Action, Allocates, Releases, Returns}
+use Rattle.nest_meaning.specs.Action.{SlowMemref, FastMemref, Action, Allocates, Releases}
 use Rattle.nest_meaning.specs.Static.{Env, knows, product, lower_of, upper_of}
 use Rattle.nest_meaning.specs.Actions.{action_of, after_plain, behind, actions, after}
 use Rattle.nest_meaning.specs.Direct.{Outcome, End, Fault, then_do, folded, State, direct_step}
@@ -27,12 +27,12 @@ use Rattle.copy_emit.specs.Template.{Staged, FirstLoop, slow_type, fast_type, fa
 use Rattle.copy_emit.specs.Template as template
 use Rattle.copy_emit.specs.FirstForm.{IsFirstStmt, WritesOut, HasMadeNames, IsStagedArg}
 use Rattle.copy_emit.proofs.Every.{all_head, all_tail, pairs_head, pairs_tail}
-use Rattle.copy_emit.proofs.Moved.{Cell, Layout, moved, Sound, Lives, OwnActions, Ends, ends_then, moved_run}
-use Rattle.copy_emit.proofs.Copies.{CopiedIn, CopiedOut, copy_in, copy_out}
-use Rattle.copy_emit.proofs.Redirected.{writes_of, Leads, IsPlaced, Knows, know_both, Agreed, body_agrees}
+use Rattle.copy_emit.proofs.Moved.{Cell, Layout, moved, Sound, Lives, OwnActions, Ends, moved_run}
+use Rattle.copy_emit.proofs.Copies.{copy_in, copy_out}
+use Rattle.copy_emit.proofs.Redirected.{writes_of, Leads, IsPlaced, know_both, Agreed, body_agrees}
 use Rattle.copy_emit.proofs.Boxes.{apart_own, with_box, stale_with, lives_in, lives_out, stale_in, stale_out, out_of_box, below', sound_with, alloc_long, begins, ends_kept, ends_written}
 use Rattle.copy_emit.proofs.Args.{Run, Runs, same_first}
-use Rattle.copy_emit.proofs.CopyActions.{in_body, out_body, ins, outs, in_loop, nest_before, nest_after, after_actions, after_homes}
+use Rattle.copy_emit.proofs.CopyActions.{in_body, ins, outs, in_loop, nest_before, nest_after, after_actions, after_homes}
 use Rattle.copy_emit.proofs.Wrapped.{wrapped}
 
 -- what the list of all staged memrefs says of each
@@ -69,9 +69,9 @@ not_in_rest m (t ∷ ss) h =
     let P = λ (t : Staged). same_name m t.memref ≡ false in
     by_case (same_name t.memref m) refl (all_head P t ss h) (not_in_rest m ss (all_tail P t ss h))
   where
-  by_case : (b : Bool) → same_name t.memref m ≡ b → same_name m t.memref ≡ false → in_rest ss m ≡ false → (if same_name t.memref m then true else in_rest ss m) ≡ false
-  by_case true e isnt rest = let k : same_name m t.memref ≡ true = same_name-is m t.memref (sym (same_name-eq t.memref m e)) in let z : false ≡ true = sym isnt ∙ k in cc
-  by_case false e isnt rest = ap (λ b. if b then true else in_rest ss m) e ∙ rest
+    by_case : (b : Bool) → same_name t.memref m ≡ b → same_name m t.memref ≡ false → in_rest ss m ≡ false → (if same_name t.memref m then true else in_rest ss m) ≡ false
+    by_case true e isnt rest = let k : same_name m t.memref ≡ true = same_name-is m t.memref (sym (same_name-eq t.memref m e)) in let z : false ≡ true = sym isnt ∙ k in cc
+    by_case false e isnt rest = ap (λ b. if b then true else in_rest ss m) e ∙ rest
 
 not_in_fasts : (f : Name) (ss : List Staged) → All (λ (t : Staged). same_name f t.fast ≡ false) ss → in_fasts ss f ≡ false
 not_in_fasts f [] h = refl
@@ -79,9 +79,9 @@ not_in_fasts f (t ∷ ss) h =
     let P = λ (t : Staged). same_name f t.fast ≡ false in
     by_case (same_name t.fast f) refl (all_head P t ss h) (not_in_fasts f ss (all_tail P t ss h))
   where
-  by_case : (b : Bool) → same_name t.fast f ≡ b → same_name f t.fast ≡ false → in_fasts ss f ≡ false → (if same_name t.fast f then true else in_fasts ss f) ≡ false
-  by_case true e isnt rest = let k : same_name f t.fast ≡ true = same_name-is f t.fast (sym (same_name-eq t.fast f e)) in let z : false ≡ true = sym isnt ∙ k in cc
-  by_case false e isnt rest = ap (λ b. if b then true else in_fasts ss f) e ∙ rest
+    by_case : (b : Bool) → same_name t.fast f ≡ b → same_name f t.fast ≡ false → in_fasts ss f ≡ false → (if same_name t.fast f then true else in_fasts ss f) ≡ false
+    by_case true e isnt rest = let k : same_name f t.fast ≡ true = same_name-is f t.fast (sym (same_name-eq t.fast f e)) in let z : false ≡ true = sym isnt ∙ k in cc
+    by_case false e isnt rest = ap (λ b. if b then true else in_fasts ss f) e ∙ rest
 
 -- after the first of two parts of the second run
 ends_last : (R Q : State → Device → Type 0) (a : Outcome State) (b : Outcome Device) (h : Device → Outcome Device) → Ends R a b → ((d : State) (y : Device) → R d y → Ends Q (End d) (h y)) → Ends Q a (then_do b h)
@@ -103,11 +103,11 @@ if_false false u h = (refl, h)
 differs : (m n : Name) (ss : List Staged) → All (λ (t : Staged). same_name m t.memref ≡ false) ss → in_rest ss n ≡ true → same_name m n ≡ false
 differs m n ss h e = by_case (same_name m n) refl
   where
-  by_case : (b : Bool) → same_name m n ≡ b → same_name m n ≡ false
-  by_case true t =
-      let k : in_rest ss n ≡ false = ap (in_rest ss) (sym (same_name-eq m n t)) ∙ not_in_rest m ss h in
-      let z : true ≡ false = sym e ∙ k in cc
-  by_case false t = t
+    by_case : (b : Bool) → same_name m n ≡ b → same_name m n ≡ false
+    by_case true t =
+        let k : in_rest ss n ≡ false = ap (in_rest ss) (sym (same_name-eq m n t)) ∙ not_in_rest m ss h in
+        let z : true ≡ false = sym e ∙ k in cc
+    by_case false t = t
 
 module _ (own : Name → Bool) (filler : ℤ) (capacity : ℕ) (all : List Staged) (l : FirstLoop) (types : Name → Option MemrefType) (total : ℕ) (e : Env)
     (runs : Runs e.home total types)
@@ -185,7 +185,7 @@ module _ (own : Name → Bool) (filler : ℤ) (capacity : ℕ) (all : List Stage
     core_ends level d y s =
         subst (λ xs. Ends (Lives own rho stale total level) (folded direct_step loop_actions d) (folded P xs y)) (sym core_actions)
         (moved_run own rho stale total level st.sound filler capacity loop_actions d y
-          (owned_turns own rho stale (λ t. actions (nest l.body) (knows e l.var t)) (λ t. (turn t).owned) (turns l.low l.high (pos 1))) s)
+        (owned_turns own rho stale (λ t. actions (nest l.body) (knows e l.var t)) (λ t. (turn t).owned) (turns l.low l.high (pos 1))) s)
 
   -- one memref more in fast memory
   module _ (s : Staged) (ss : List Staged) (g : Env) (rho : Layout) (stale : ℕ → Bool) (st : Stage (s ∷ ss) g rho stale)
@@ -236,24 +236,27 @@ module _ (own : Name → Bool) (filler : ℤ) (capacity : ℕ) (all : List Stage
         → (first + k < r.first) ⊎ (r.first + s.size ≤ first + k)
     outside m ty order first k typed home ne less = side (runs.apart s.memref m (slow_type s.size) ty r.order r.first order first arg.typed typed r.home home ne)
       where
-      side : (r.first + s.size * 1 ≤ first) ⊎ (first + product ty.sizes ≤ r.first) → (first + k < r.first) ⊎ (r.first + s.size ≤ first + k)
-      side (inl h) = inr (omega (arith, h))
-      side (inr h) = inl (omega (arith, h, less))
+        side : (r.first + s.size * 1 ≤ first) ⊎ (first + product ty.sizes ≤ r.first) → (first + k < r.first) ⊎ (r.first + s.size ≤ first + k)
+        side (inl h) = inr (omega (arith, h))
+        side (inr h) = inl (omega (arith, h, less))
 
     not_boxed : (m : Name) (ty : MemrefType) (order first k : ℕ) → types m ≡ Some ty → e.home m ≡ Some (SlowMemref order first) → same_name s.memref m ≡ false → k < product ty.sizes
         → (rho' (first + k) ≡ rho (first + k)) × (stale' (first + k) ≡ stale (first + k))
     not_boxed m ty order first k typed home ne less =
-        let out = out_of_box own rho stale total st.sound g.fasts r.first s.size s.writes fits free current st.below (first + k) (outside m ty order first k typed home ne less) in
-        (lives_out own rho stale total st.sound g.fasts r.first s.size s.writes fits free current st.below (first + k) out,
-         stale_out own rho stale total st.sound g.fasts r.first s.size s.writes fits free current st.below (first + k) out)
+        let out = out_of_box own rho stale total st.sound g.fasts r.first s.size s.writes fits free current st.below (first + k) (outside m ty order first k typed home ne less) in (
+          lives_out own rho stale total st.sound g.fasts r.first s.size s.writes fits free current st.below (first + k) out,
+          stale_out own rho stale total st.sound g.fasts r.first s.size s.writes fits free current st.below (first + k) out,
+        )
 
     -- what was said of another memref still holds
     led : (o : Option Name) (m : Name) (ty : MemrefType) (order first : ℕ) → types m ≡ Some ty → e.home m ≡ Some (SlowMemref order first) → same_name s.memref m ≡ false
         → ((f : Name) → o ≡ Some f → same_name s.fast f ≡ false)
         → Leads own all e.home g.home rho stale o first (product ty.sizes) → Leads own all e.home g2.home rho' stale' o first (product ty.sizes)
-    led (Some f) m ty order first typed home ne other h =
-        (h.0, put-other g.home s.fast (Some (FastMemref g.fasts)) f (other f refl) ∙ h.1,
-         λ k less. (not_boxed m ty order first k typed home ne less).0 ∙ h.2 k less)
+    led (Some f) m ty order first typed home ne other h = (
+      h.0,
+      put-other g.home s.fast (Some (FastMemref g.fasts)) f (other f refl) ∙ h.1,
+      λ k less. (not_boxed m ty order first k typed home ne less).0 ∙ h.2 k less,
+    )
     led None m ty order first typed home ne other h = λ k less. (not_boxed m ty order first k typed home ne less).0 ∙ h k less
 
     -- what is said of this one
@@ -262,14 +265,15 @@ module _ (own : Name → Bool) (filler : ℤ) (capacity : ℕ) (all : List Stage
     led_here m order first is home =
         let f : r.first ≡ first = same_first (e.home m) r.order r.first order first (ap e.home (sym is) ∙ r.home) home in
         let leads : Leads own all e.home g2.home rho' stale' (Some s.fast) r.first (s.size * 1) =
-            (g.fasts, home_fast, λ k less. lives_in own rho stale total st.sound g.fasts r.first s.size s.writes fits free current st.below k (omega (arith, less))) in
-        (subst (λ (m : Name). Leads own all e.home g2.home rho' stale' (fast_of all m) first (s.size * 1)) is
-          (subst (λ (i : ℕ). Leads own all e.home g2.home rho' stale' (fast_of all s.memref) i (s.size * 1)) f
-          (subst (λ (o : Option Name). Leads own all e.home g2.home rho' stale' o r.first (s.size * 1)) (sym found) leads)),
-         λ k less.
-          (λ i. stale' (sym f i + k))
-          ∙ stale_in own rho stale total st.sound g.fasts r.first s.size s.writes fits free current st.below k (omega (arith, less))
-          ∙ sym flag ∙ ap (writes_of own all) is)
+        (g.fasts, home_fast, λ k less. lives_in own rho stale total st.sound g.fasts r.first s.size s.writes fits free current st.below k (omega (arith, less))) in (
+          subst (λ (m : Name). Leads own all e.home g2.home rho' stale' (fast_of all m) first (s.size * 1)) is
+              (subst (λ (i : ℕ). Leads own all e.home g2.home rho' stale' (fast_of all s.memref) i (s.size * 1)) f
+              (subst (λ (o : Option Name). Leads own all e.home g2.home rho' stale' o r.first (s.size * 1)) (sym found) leads)),
+          λ k less.
+              (λ i. stale' (sym f i + k))
+              ∙ stale_in own rho stale total st.sound g.fasts r.first s.size s.writes fits free current st.below k (omega (arith, less))
+              ∙ sym flag ∙ ap (writes_of own all) is,
+        )
 
     -- both cases of which memref it is
     done_by : (m : Name) (ty : MemrefType) (order first : ℕ) (t : Bool) → same_name s.memref m ≡ t → types m ≡ Some ty → e.home m ≡ Some (SlowMemref order first) → in_rest ss m ≡ false
@@ -282,9 +286,10 @@ module _ (own : Name → Bool) (filler : ℤ) (capacity : ℕ) (all : List Stage
         subst (λ (ty : MemrefType). Leads own all e.home g2.home rho' stale' (fast_of all m) first (product ty.sizes) × ((k : ℕ) → k < product ty.sizes → stale' (first + k) ≡ writes_of own all m)) u here
     done_by m ty order first false t typed home rest =
         let before : in_rest (s ∷ ss) m ≡ false = ap (λ b. if b then true else in_rest ss m) t ∙ rest in
-        let d = st.done m ty order first typed home before in
-        (led (fast_of all m) m ty order first typed home t (λ f is. (if_false (same_name s.fast f) (in_fasts ss f) (st.apart m f before is)).0) d.0,
-         λ k less. (not_boxed m ty order first k typed home t less).1 ∙ d.1 k less)
+        let d = st.done m ty order first typed home before in (
+          led (fast_of all m) m ty order first typed home t (λ f is. (if_false (same_name s.fast f) (in_fasts ss f) (st.apart m f before is)).0) d.0,
+          λ k less. (not_boxed m ty order first k typed home t less).1 ∙ d.1 k less,
+        )
 
     apart_by : (m f : Name) (t : Bool) → same_name s.memref m ≡ t → in_rest ss m ≡ false → fast_of all m ≡ Some f → in_fasts ss f ≡ false
     apart_by m f true t rest is =
@@ -303,9 +308,9 @@ module _ (own : Name → Bool) (filler : ℤ) (capacity : ℕ) (all : List Stage
       sound = sound_with own rho stale total st.sound g.fasts r.first s.size s.writes fits free current st.below;
       below = λ p c h. (let n = below' own rho stale total st.sound g.fasts r.first s.size s.writes fits free current st.below p c h in omega (arith, n));
       waiting = λ m ty order first typed home rest k less.
-        (let out = not_boxed m ty order first k typed home (differs s.memref m ss memrefs rest) less in
-         let old = st.waiting m ty order first typed home (still_waiting m rest) k less in
-         (out.0 ∙ old.0, out.1 ∙ old.1));
+          (let out = not_boxed m ty order first k typed home (differs s.memref m ss memrefs rest) less in
+          let old = st.waiting m ty order first typed home (still_waiting m rest) k less in
+          (out.0 ∙ old.0, out.1 ∙ old.1));
       done = λ m ty order first typed home rest. done_by m ty order first (same_name s.memref m) refl typed home rest;
       apart = λ m f rest is. apart_by m f (same_name s.memref m) refl rest is;
     }
@@ -326,18 +331,18 @@ module _ (own : Name → Bool) (filler : ℤ) (capacity : ℕ) (all : List Stage
       behind_actions =
           ap (λ k. actions k g3) (nest_after s)
           ∙ after_actions s s.writes g3 r.order r.first g.fasts names.out_apart
-            (homes_kept ss g2 s.memref (own_not_fast own ss s.memref made_rest arg.memref) ∙ home_memref)
-            (homes_kept ss g2 s.fast (not_in_fasts s.fast ss fasts) ∙ home_fast)
+          (homes_kept ss g2 s.memref (own_not_fast own ss s.memref made_rest arg.memref) ∙ home_memref)
+          (homes_kept ss g2 s.fast (not_in_fasts s.fast ss fasts) ∙ home_fast)
 
       all_actions : actions (nest (wrapped (s ∷ ss) core)) g
           ≡ Allocates g.fasts I32 (1 ∷ s.size ∷ []) ∷ (ins s.in_value r.first g.fasts s.size
-            ++ (actions (nest (wrapped ss core)) g2 ++ ((if s.writes then outs s.out_value r.first g.fasts s.size else []) ++ Releases g.fasts I32 (1 ∷ s.size ∷ []) ∷ [])))
+          ++ (actions (nest (wrapped ss core)) g2 ++ ((if s.writes then outs s.out_value r.first g.fasts s.size else []) ++ Releases g.fasts I32 (1 ∷ s.size ∷ []) ∷ [])))
       all_actions =
           before_actions (wrapped ss core ++ template.after s)
           ∙ ap (λ xs. Allocates g.fasts I32 (1 ∷ s.size ∷ []) ∷ (ins s.in_value r.first g.fasts s.size ++ xs))
-            (ap (λ k. actions k g2) (nest-append (wrapped ss core) (template.after s))
-            ∙ actions-followed (nest (wrapped ss core)) (nest (template.after s)) g2
-            ∙ ap (λ xs. actions (nest (wrapped ss core)) g2 ++ xs) behind_actions)
+          (ap (λ k. actions k g2) (nest-append (wrapped ss core) (template.after s))
+          ∙ actions-followed (nest (wrapped ss core)) (nest (template.after s)) g2
+          ∙ ap (λ xs. actions (nest (wrapped ss core)) g2 ++ xs) behind_actions)
 
       module _ (level : ℕ) where
         abbrev R : State → Device → Type 0
@@ -359,8 +364,8 @@ module _ (own : Name → Bool) (filler : ℤ) (capacity : ℕ) (all : List Stage
             let z = back.0 in
             subst (Ends R (End d))
             (sym (folded-append P (outs s.out_value r.first g.fasts s.size) (Releases g.fasts I32 (1 ∷ s.size ∷ []) ∷ []) y
-              ∙ ap (λ o. then_do o (folded P (Releases g.fasts I32 (1 ∷ s.size ∷ []) ∷ []))) back.1
-              ∙ release z (back.2.kept.outstanding ∙ h.idle)))
+            ∙ ap (λ o. then_do o (folded P (Releases g.fasts I32 (1 ∷ s.size ∷ []) ∷ []))) back.1
+            ∙ release z (back.2.kept.outstanding ∙ h.idle)))
             (ends_written own rho stale total st.sound g.fasts r.first s.size s.writes fits free current st.below level filler capacity s.out_value names.out_value d y z h back.2)
         last false t d y h =
             subst (Ends R (End d)) (sym (release y h.idle))
@@ -387,16 +392,16 @@ module _ (own : Name → Bool) (filler : ℤ) (capacity : ℕ) (all : List Stage
             let there = copy_in filler capacity (λ k. r.first + k) s.in_value g.fasts 0 s.size 0 (allocated filler g.fasts I32 (1 ∷ s.size ∷ []) y1) h.idle (omega (arith, long)) in
             let z = there.0 in
             let path : folded P (actions (nest (wrapped (s ∷ ss) core)) g) y ≡ then_do (folded P mid z) (folded P fin) =
-                ap (λ xs. folded P xs y) all_actions
-                ∙ folded-cons P first (ins' ++ (mid ++ fin)) y
-                ∙ alloc y (folded P (ins' ++ (mid ++ fin))) h.has_level room
-                ∙ folded-append P ins' (mid ++ fin) (allocated filler g.fasts I32 (1 ∷ s.size ∷ []) y1)
-                ∙ ap (λ o. then_do o (folded P (mid ++ fin))) there.1
-                ∙ folded-append P mid fin z in
+            ap (λ xs. folded P xs y) all_actions
+            ∙ folded-cons P first (ins' ++ (mid ++ fin)) y
+            ∙ alloc y (folded P (ins' ++ (mid ++ fin))) h.has_level room
+            ∙ folded-append P ins' (mid ++ fin) (allocated filler g.fasts I32 (1 ∷ s.size ∷ []) y1)
+            ∙ ap (λ o. then_do o (folded P (mid ++ fin))) there.1
+            ∙ folded-append P mid fin z in
             subst (Ends R (folded direct_step loop_actions d)) (sym path)
             (ends_last R' R (folded direct_step loop_actions d) (folded P mid z) (folded P fin)
-              (inner d z (begins own rho stale total st.sound g.fasts r.first s.size s.writes fits free current st.below level filler capacity s.in_value names.in_value d y1 z h there.2))
-              (λ d y h. last s.writes refl d y h))
+            (inner d z (begins own rho stale total st.sound g.fasts r.first s.size s.writes fits free current st.below level filler capacity s.in_value names.in_value d y1 z h there.2))
+            (λ d y h. last s.writes refl d y h))
 
   pub staged_ends : (ss : List Staged) (g : Env) (rho : Layout) (stale : ℕ → Bool) → Stage ss g rho stale
       → All (HasMadeNames own) ss → All (IsStagedArg own types) ss → AllPairs (λ (s t : Staged). same_name s.memref t.memref ≡ false) ss → AllPairs (λ (s t : Staged). same_name s.fast t.fast ≡ false) ss → All (Found own all) ss
@@ -412,6 +417,6 @@ module _ (own : Name → Bool) (filler : ℤ) (capacity : ℕ) (all : List Stage
       let bytes = sum_by-cons (λ (s : Staged). s.size) s ss in
       round s ss g rho stale st name arg apart different f.fast f.flag (all_tail (HasMadeNames own) s ss names) level d y (omega (arith, room, bytes)) h
       (λ d y h. staged_ends ss _ _ _ (next s ss g rho stale st name arg apart different f.fast f.flag)
-        (all_tail (HasMadeNames own) s ss names) (all_tail (IsStagedArg own types) s ss args)
-        (pairs_tail (λ (s t : Staged). same_name s.memref t.memref ≡ false) s ss memrefs) (pairs_tail (λ (s t : Staged). same_name s.fast t.fast ≡ false) s ss fasts)
-        (all_tail (Found own all) s ss found) (level + 4 * s.size) (omega (arith, room, bytes)) d y h)
+      (all_tail (HasMadeNames own) s ss names) (all_tail (IsStagedArg own types) s ss args)
+      (pairs_tail (λ (s t : Staged). same_name s.memref t.memref ≡ false) s ss memrefs) (pairs_tail (λ (s t : Staged). same_name s.fast t.fast ≡ false) s ss fasts)
+      (all_tail (Found own all) s ss found) (level + 4 * s.size) (omega (arith, room, bytes)) d y h)

@@ -1,37 +1,35 @@
 -- The theorem, from the first states on.
-use Rattle.std.proofs.Common.{◌≡◌, ℕ, zero, suc, ◌+◌, ◌*◌, ◌<◌, ◌≤◌, ℤ, pos, List, [], ◌∷◌, ◌++◌, length, get_or, refl, sym, ap, ◌∙◌, subst, arith, Bool, true, false, map}
+use Rattle.std.proofs.Common.{◌≡◌, ℕ, suc, ℤ, pos, List, [], ◌∷◌, ◌++◌, length, refl, sym, ap, ◌∙◌, subst, arith, Bool, true, false, map}
 use Rattle.std.specs.Prelude.{flat_map, reverse, All, AllPairs, Option, Some, None, if◌then◌else◌}
-use Rattle.std.proofs.lemmas.List.{append_assoc, append-nil, ext_get_or}
+use Rattle.std.proofs.lemmas.List.{append_assoc, ext_get_or}
 use Rattle.affine_ast.specs.declared.name.Name.{Name}
-use Rattle.affine_ast.specs.declared.image.Image.{Image}
-use Rattle.affine_ast.specs.declared.module.Module.{Module}
 use Rattle.affine_ast.specs.declared.types.Bound.TheVariants.{Int}
 use Rattle.affine_ast.specs.declared.types.MemrefType.{MemrefType}
 use Rattle.affine_ast.specs.declared.stmt.Stmt.{Stmt}
 use Rattle.affine_ast.specs.declared.stmt.What as what
 use Rattle.affine_ast.specs.Names.{same_name}
-use Rattle.affine_ast.specs.Nest.{Nest, Nothing, Loop, Does, Return, nest}
+use Rattle.affine_ast.specs.Nest.{Nothing, Does, Return, nest}
 use Rattle.affine_ast.proofs.Names.{same_name-refl}
 use Rattle.affine_ast.proofs.Nests.{nest-nil, nest-cons, nest-append, put-For, put-Return}
 use Rattle.nest_meaning.specs.Turns.{turns}
-use Rattle.nest_meaning.specs.Action.{Home, SlowMemref, Action, Returns}
+use Rattle.nest_meaning.specs.Action.{Home, Returns}
 use Rattle.nest_meaning.specs.Static.{Env, knows, product, lower_of, upper_of}
 use Rattle.nest_meaning.specs.Actions.{action_of, after_plain, behind, actions, after}
-use Rattle.nest_meaning.specs.Memory.{slow_list, Fits, start_env, module_actions}
+use Rattle.nest_meaning.specs.Memory.{slow_list, start_env, module_actions}
 use Rattle.nest_meaning.specs.Direct.{Outcome, End, Fault, then_do, folded, State, direct_step, first_state, plain}
 use Rattle.nest_meaning.proofs.Laws.{folded-append, actions-Nothing, actions-Does, actions-Loop, actions-followed}
 use Rattle.prompt_meaning.specs.Device.{Device}
 use Rattle.prompt_meaning.specs.Prompt.{acts, prompt_step, first_device, prompt}
 use Rattle.copy_emit.specs.Template.{Staged, FirstLoop, input_body, staged_body, fast_of, before, redirect_stmt}
 use Rattle.copy_emit.specs.Template as template
-use Rattle.copy_emit.specs.FirstForm.{arg_types, IsFirstForm, IsPlan}
-use Rattle.copy_emit.specs.Law.{Agrees, staged, StagingAgrees}
+use Rattle.copy_emit.specs.FirstForm.{arg_types}
+use Rattle.copy_emit.specs.Law.{Agrees, StagingAgrees}
 use Rattle.copy_emit.proofs.Every.{all_head, all_tail, pairs_head, pairs_tail, all_cons}
-use Rattle.copy_emit.proofs.Moved.{Cell, Sound, Lives, Ends}
+use Rattle.copy_emit.proofs.Moved.{Cell, Lives, Ends}
 use Rattle.copy_emit.proofs.Redirected.{writes_of, Leads}
 use Rattle.copy_emit.proofs.Args.{Runs, arg_runs}
 use Rattle.copy_emit.proofs.Wrapped.{wrapped, wrapped_is}
-use Rattle.copy_emit.proofs.Staged.{Found, in_rest, in_fasts, loop_actions, core, Stage, staged_ends}
+use Rattle.copy_emit.proofs.Staged.{Found, in_rest, Stage, staged_ends}
 
 -- each staged memref is found among all of them, since they are different
 weaker : (own : Name → Bool) (s : Staged) (ss ts : List Staged) → All (λ (t : Staged). same_name s.memref t.memref ≡ false) ts → All (Found own ss) ts → All (Found own (s ∷ ss)) ts
@@ -67,14 +65,14 @@ not_staged : (own : Name → Bool) (ss : List Staged) (m : Name) → in_rest ss 
 not_staged own [] m h = record { fast = refl; flag = refl }
 not_staged own (s ∷ ss) m h = by_case (same_name s.memref m) refl h (λ k. not_staged own ss m k)
   where
-  by_case : (t : Bool) → same_name s.memref m ≡ t → (if same_name s.memref m then true else in_rest ss m) ≡ false → (in_rest ss m ≡ false → NotStaged own ss m) → NotStaged own (s ∷ ss) m
-  by_case true e k more = let z : true ≡ false = sym (ap (λ b. if b then true else in_rest ss m) e) ∙ k in absurd (cc)
-  by_case false e k more =
-      let rest = more (sym (ap (λ b. if b then true else in_rest ss m) e) ∙ k) in
-      record {
-        fast = ap (λ b. if b then Some s.fast else fast_of ss m) e ∙ rest.fast;
-        flag = ap (λ b. if b then s.writes else writes_of own ss m) e ∙ rest.flag;
-      }
+    by_case : (t : Bool) → same_name s.memref m ≡ t → (if same_name s.memref m then true else in_rest ss m) ≡ false → (in_rest ss m ≡ false → NotStaged own ss m) → NotStaged own (s ∷ ss) m
+    by_case true e k more = let z : true ≡ false = sym (ap (λ b. if b then true else in_rest ss m) e) ∙ k in absurd (cc)
+    by_case false e k more =
+        let rest = more (sym (ap (λ b. if b then true else in_rest ss m) e) ∙ k) in
+        record {
+          fast = ap (λ b. if b then Some s.fast else fast_of ss m) e ∙ rest.fast;
+          flag = ap (λ b. if b then s.writes else writes_of own ss m) e ∙ rest.flag;
+        }
 
 no_cell : (c : Cell) → None ≡ Some c → ⊥
 no_cell c h = cc
@@ -158,30 +156,36 @@ theorem own m l ss form plan memory fits filler =
       below = λ p c h. absurd (no_cell c h);
       waiting = λ m ty order first typed home rest k less. (refl, refl);
       done = λ m ty order first typed home rest.
-        (let n = not_staged own ss m rest in
-        (leads_nowhere own ss l types e filler first (product ty.sizes) e.home e.home (fast_of ss m) n.fast, λ k less. sym n.flag));
+          (let n = not_staged own ss m rest in
+          (leads_nowhere own ss l types e filler first (product ty.sizes) e.home e.home (fast_of ss m) n.fast, λ k less. sym n.flag));
       apart = λ m f rest is. (let n = not_staged own ss m rest in absurd (different f (sym n.fast ∙ is)));
     } in
     let lives : Lives own nowhere nothing_stale total 0 (first_state memory) (first_device memory) = record {
-      registers = λ n h. refl; slow = λ p h. refl; room = λ p c h. absurd (no_cell c h); fast = λ p c h. absurd (no_cell c h);
-      direct_long = refl; long = refl; has_level = refl; idle = refl;
+      registers = λ n h. refl;
+      slow = λ p h. refl;
+      room = λ p c h. absurd (no_cell c h);
+      fast = λ p c h. absurd (no_cell c h);
+      direct_long = refl;
+      long = refl;
+      has_level = refl;
+      idle = refl;
     } in
     let room = plan.room in
     let ends = staged_ends own filler 1048576 ss l types total e runs form.var form.stmts plan.writes ss e nowhere nothing_stale start
-        plan.names plan.args plan.memrefs plan.fasts (all_found own ss plan.memrefs) 0 (omega (arith, room)) (first_state memory) (first_device memory) lives in
+    plan.names plan.args plan.memrefs plan.fasts (all_found own ss plan.memrefs) 0 (omega (arith, room)) (first_state memory) (first_device memory) lives in
     let loop = flat_map (λ t. actions (nest l.body) (knows e l.var t)) (turns l.low l.high (pos 1)) in
     let direct_is : folded direct_step (actions (nest m.body) e) (first_state memory) ≡ then_do (folded direct_step loop (first_state memory)) (folded direct_step (Returns ∷ [])) =
-        ap (λ xs. folded direct_step (actions (nest xs) e) (first_state memory)) form.body
-        ∙ ap (λ xs. folded direct_step xs (first_state memory)) (input_actions own ss l types e filler)
-        ∙ folded-append direct_step loop (Returns ∷ []) (first_state memory) in
+    ap (λ xs. folded direct_step (actions (nest xs) e) (first_state memory)) form.body
+    ∙ ap (λ xs. folded direct_step xs (first_state memory)) (input_actions own ss l types e filler)
+    ∙ folded-append direct_step loop (Returns ∷ []) (first_state memory) in
     let P = prompt_step filler 1048576 in
     let inner = actions (nest (wrapped ss (loop_core own ss l types e filler))) e in
     let prompt_is : folded P (actions (nest (staged_body ss l)) e) (first_device memory) ≡ then_do (folded P inner (first_device memory)) (folded P (Returns ∷ [])) =
-        ap (λ xs. folded P xs (first_device memory)) (staged_actions own ss l types e filler)
-        ∙ folded-append P inner (Returns ∷ []) (first_device memory) in
+    ap (λ xs. folded P xs (first_device memory)) (staged_actions own ss l types e filler)
+    ∙ folded-append P inner (Returns ∷ []) (first_device memory) in
     subst (λ o. Agrees o (folded P (actions (nest (staged_body ss l)) e) (first_device memory))) (sym direct_is)
     (subst (Agrees (then_do (folded direct_step loop (first_state memory)) (folded direct_step (Returns ∷ [])))) (sym prompt_is)
     (finish own ss l types e filler total (folded direct_step loop (first_state memory)) (folded P inner (first_device memory)) ends))
   where
-  different : (f : Name) → None ≡ Some f → ⊥
-  different f h = cc
+    different : (f : Name) → None ≡ Some f → ⊥
+    different f h = cc

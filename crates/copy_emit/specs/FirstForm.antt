@@ -1,5 +1,5 @@
 -- The modules of the first form, and what the plan of the first form asks of the memrefs that it stages.
-use Rattle.std.specs.Prelude.{◌≡◌, ℕ, ◌+◌, ◌*◌, ◌≤◌, ℤ, pos, Bool, true, false, List, [], ◌∷◌, All, AllPairs, fold, sum_by, Option, Some, None}
+use Rattle.std.specs.Prelude.{◌≡◌, ℕ, ◌*◌, ◌≤◌, Bool, true, false, List, All, AllPairs, fold, sum_by, Option, Some, None}
 use Rattle.affine_ast.specs.declared.name.Name.{Name}
 use Rattle.affine_ast.specs.declared.module.Arg.{Arg}
 use Rattle.affine_ast.specs.declared.module.ArgKind.{ArgKind}
@@ -19,9 +19,9 @@ use Rattle.copy_emit.specs.Template.{Staged, FirstLoop, input_body, slow_type, a
 abbrev pub note_type : (Name → Option MemrefType) → Arg → Name → Option MemrefType
 note_type types arg = note arg.kind
   where
-  note : ArgKind → Name → Option MemrefType
-  note (Memref ty) = put types arg.name (Some ty)
-  note (Index range) = types
+    note : ArgKind → Name → Option MemrefType
+    note (Memref ty) = put types arg.name (Some ty)
+    note (Index range) = types
 
 unfoldable pub arg_types : List Arg → Name → Option MemrefType
 arg_types args = fold note_type (λ n. None) args

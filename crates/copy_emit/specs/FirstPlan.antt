@@ -1,5 +1,5 @@
 -- The plan of the first form: which memrefs are staged, in which order, and the names that their copies take.
-use Rattle.std.specs.Prelude.{◌≡◌, ℕ, ◌+◌, ◌*◌, ◌≤◌, ℤ, Bool, true, false, not, ◌||◌, List, [], ◌∷◌, ◌++◌, length, take, fold, sum_by, Option, Some, None, if◌then◌else◌, codes, decimal, bytes_eq}
+use Rattle.std.specs.Prelude.{ℕ, ◌+◌, ◌*◌, ◌≤◌, ℤ, Bool, true, false, not, ◌||◌, List, [], ◌∷◌, ◌++◌, length, take, fold, sum_by, Option, Some, None, if◌then◌else◌, codes, decimal, bytes_eq}
 use Rattle.affine_ast.specs.declared.name.Name.{Name}
 use Rattle.affine_ast.specs.declared.image.Image.{Image}
 use Rattle.affine_ast.specs.declared.module.Arg.{Arg}
@@ -60,7 +60,9 @@ written_out (p ∷ ps) = (if p.writes then 1 else 0) + written_out ps
 module _ (name : ℕ → Name) (total : ℕ) where
   abbrev pub numbered_one : ℕ → Planned → List Planned → Staged
   numbered_one next p later = record {
-    memref = p.memref; size = p.size; writes = p.writes;
+    memref = p.memref;
+    size = p.size;
+    writes = p.writes;
     fast = name next;
     in_turn = name (next + 1);
     in_value = name (next + 2);
@@ -90,9 +92,9 @@ other_letters n = not (bytes_eq (take 4 n.text) (codes "copy"))
 abbrev pub arg_elements : Arg → ℕ
 arg_elements arg = elements arg.kind
   where
-  elements : ArgKind → ℕ
-  elements (Memref ty) = product ty.sizes
-  elements (Index range) = 0
+    elements : ArgKind → ℕ
+    elements (Memref ty) = product ty.sizes
+    elements (Index range) = 0
 
 -- the staged memrefs of a loop, with their names
 abbrev pub first_staged : Bool → FirstLoop → List Staged

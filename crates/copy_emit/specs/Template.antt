@@ -1,6 +1,6 @@
 -- The template of copy loops: a loop, with memrefs of one dimension that are copied whole to fast memory before it, and
 -- back after it.
-use Rattle.std.specs.Prelude.{ℕ, ◌*◌, ◌+◌, ℤ, pos, Bool, true, false, List, [], ◌∷◌, ◌++◌, map, flat_map, reverse, Option, Some, None, if◌then◌else◌}
+use Rattle.std.specs.Prelude.{ℕ, ℤ, pos, Bool, List, [], ◌∷◌, ◌++◌, map, flat_map, reverse, Option, Some, None, if◌then◌else◌}
 use Rattle.affine_expr.specs.declared.expr.Expr.{Const, Dim}
 use Rattle.affine_ast.specs.declared.name.Name.{Name}
 use Rattle.affine_ast.specs.declared.types.Access.{Access}

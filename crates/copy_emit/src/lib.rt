@@ -11,19 +11,16 @@ ghost use Rattle.copy_emit.specs.Law.{StagingAgrees};
 /// 1,048,576 bytes the verdict of the module itself, and at the end its slow memory.
 pub fn staging_agrees()
     ensures { StagingAgrees }
-{
-}
+{}
 
 /// The same for the plan of the first form, which stages each memref of the loop in the order of first accesses, and for
 /// its numbered names.
 pub fn first_plan_agrees()
     ensures { FirstPlanAgrees }
-{
-}
+{}
 
 /// The same for the module that the printed text spells, whose names aren't made, where no name of the input begins as
 /// they do.
 pub fn printed_plan_agrees()
     ensures { PrintedPlanAgrees }
-{
-}
+{}

@@ -1,26 +1,27 @@
-// The staged module.
-use crate::form::{argument_of, argument_size, is_first_form};
-use crate::place::{Placement, placements};
-use affine_ast::{Access, Arg, Bound, Element, MemrefType, Module, Name, Stmt, Text, What};
+// The template's statements.
+ghost use Rattle.std.specs.Prelude.{◌≡◌, [], ◌∷◌, IfOk, map, flat_map, reverse};
+ghost use Rattle.std.specs.Option.{option_copied};
+ghost use Rattle.copy_emit.specs.Template as template;
+ghost use Rattle.copy_emit.specs.Template.{slow_type, fast_type, at_value, in_half};
+ghost use Rattle.first_path.specs.Plan.{as_staged};
+
+use crate::plan::Copied;
+use affine_ast::{Access, Bound, Element, MemrefType, Name, Stmt, What};
 use affine_expr::{Expr, Map};
 use sqlite_items::Items;
 use std::alloc::{AllocError, Global};
 
-/// A name that the templates make: `copy` and its number.
-fn made(alloc: Global, number: u32) -> Result<Name, AllocError> {
-    let text = format!(in alloc; "copy{number}")?;
-    Ok(Name {
-        text: Text::from_string(text),
-        made: true,
-    })
-}
-
 /// A statement that the templates make: it has no line.
-fn plain(what: What) -> Stmt {
+fn plain(what: What) -> Stmt
+    ensures { result ≡ template.made what }
+{
     Stmt { line: 0, what }
 }
 
-fn vector(alloc: Global, size: u32) -> Result<MemrefType, AllocError> {
+/// The type of a vector of `i32` in slow memory.
+fn vector(alloc: Global, size: u32) -> Result<MemrefType, AllocError>
+    ensures { IfOk result (λ ty. ty ≡ slow_type size) }
+{
     let mut sizes = Items::new(alloc);
     sizes.push(size)?;
     Ok(MemrefType {
@@ -30,37 +31,35 @@ fn vector(alloc: Global, size: u32) -> Result<MemrefType, AllocError> {
     })
 }
 
-/// The type of the fast memref of a vector: one half of its size.
-fn fast_vector(alloc: Global, size: u32) -> Result<MemrefType, AllocError> {
+/// The type of the fast memref: one half of the sizes.
+fn fast(alloc: Global, ty: &MemrefType) -> Result<MemrefType, AllocError>
+    ensures { IfOk result (λ fast. fast ≡ fast_type ty.now) }
+{
     let mut sizes = Items::new(alloc);
     sizes.push(1)?;
-    sizes.push(size)?;
+    sizes.append(Items::from_slice(alloc, ty.sizes.as_slice())?)?;
     Ok(MemrefType {
         sizes,
-        element: Element::I32,
+        element: ty.element,
         space: 1,
     })
 }
 
+/// The type of the fast memref of a vector.
+fn fast_vector(alloc: Global, size: u32) -> Result<MemrefType, AllocError>
+    ensures { IfOk result (λ ty. ty ≡ fast_type (slow_type size)) }
+{
+    fast(alloc, &vector(alloc, size)?)
+}
+
 /// The subscript of a vector at a turn.
-fn at_turn(alloc: Global, var: Name) -> Result<Access, AllocError> {
+fn at_turn(alloc: Global, turn: &Name) -> Result<Access, AllocError>
+    ensures { IfOk result (λ at. at ≡ at_value turn.now) }
+{
     let mut results = Items::new(alloc);
     results.push(Expr::Dim(0))?;
-    access(alloc, results, var)
-}
-
-/// The subscripts of a fast memref at a turn: half 0, and the turn.
-fn fast_at_turn(alloc: Global, var: Name) -> Result<Access, AllocError> {
-    let mut results = Items::new(alloc);
-    results.push(Expr::Const(0))?;
-    results.push(Expr::Dim(0))?;
-    access(alloc, results, var)
-}
-
-/// Subscripts over one dimension.
-fn access(alloc: Global, results: Items<Expr>, var: Name) -> Result<Access, AllocError> {
     let mut operands = Items::new(alloc);
-    operands.push(var)?;
+    operands.push(turn.copy(alloc)?)?;
     Ok(Access {
         map: Map {
             dims: 1,
@@ -71,27 +70,118 @@ fn access(alloc: Global, results: Items<Expr>, var: Name) -> Result<Access, Allo
     })
 }
 
-/// A memref that is copied, and the fast memref beside it.
-#[derive(Clone, Copy)]
-struct Copied<'a> {
-    slow: &'a Name,
-    size: u32,
-    fast: u32,
+/// The subscripts of the fast memref: half 0, and the same ones.
+fn in_first_half(alloc: Global, at: &Access) -> Result<Access, AllocError>
+    ensures { IfOk result (λ half. half ≡ in_half at.now) }
+{
+    let Access { map, operands } = at.copy(alloc)?;
+    let mut results = Items::new(alloc);
+    results.push(Expr::Const(0))?;
+    results.append(map.results)?;
+    Ok(Access {
+        map: Map {
+            dims: map.dims,
+            syms: map.syms,
+            results,
+        },
+        operands,
+    })
 }
 
-/// A loop over all elements round two statements.
+/// The subscripts of the fast memref of a vector at a turn.
+fn fast_at_turn(alloc: Global, turn: &Name) -> Result<Access, AllocError>
+    ensures { IfOk result (λ at. at ≡ in_half (at_value turn.now)) }
+{
+    in_first_half(alloc, &at_turn(alloc, turn)?)
+}
+
+/// A load from a vector at a turn.
+fn load(
+    alloc: Global,
+    value: &Name,
+    memref: &Name,
+    turn: &Name,
+    size: u32,
+) -> Result<What, AllocError>
+    ensures { IfOk result (λ what. what ≡ What.Load value.now memref.now (at_value turn.now) (slow_type size)) }
+{
+    Ok(What::Load {
+        result: value.copy(alloc)?,
+        memref: memref.copy(alloc)?,
+        at: at_turn(alloc, turn)?,
+        ty: vector(alloc, size)?,
+    })
+}
+
+/// A store to a vector at a turn.
+fn store(
+    alloc: Global,
+    value: &Name,
+    memref: &Name,
+    turn: &Name,
+    size: u32,
+) -> Result<What, AllocError>
+    ensures { IfOk result (λ what. what ≡ What.Store value.now memref.now (at_value turn.now) (slow_type size)) }
+{
+    Ok(What::Store {
+        value: value.copy(alloc)?,
+        memref: memref.copy(alloc)?,
+        at: at_turn(alloc, turn)?,
+        ty: vector(alloc, size)?,
+    })
+}
+
+/// A load from the fast memref of a vector at a turn.
+fn fast_load(
+    alloc: Global,
+    value: &Name,
+    memref: &Name,
+    turn: &Name,
+    size: u32,
+) -> Result<What, AllocError>
+    ensures { IfOk result (λ what. what ≡ What.Load value.now memref.now (in_half (at_value turn.now)) (fast_type (slow_type size))) }
+{
+    Ok(What::Load {
+        result: value.copy(alloc)?,
+        memref: memref.copy(alloc)?,
+        at: fast_at_turn(alloc, turn)?,
+        ty: fast_vector(alloc, size)?,
+    })
+}
+
+/// A store to the fast memref of a vector at a turn.
+fn fast_store(
+    alloc: Global,
+    value: &Name,
+    memref: &Name,
+    turn: &Name,
+    size: u32,
+) -> Result<What, AllocError>
+    ensures { IfOk result (λ what. what ≡ What.Store value.now memref.now (in_half (at_value turn.now)) (fast_type (slow_type size))) }
+{
+    Ok(What::Store {
+        value: value.copy(alloc)?,
+        memref: memref.copy(alloc)?,
+        at: fast_at_turn(alloc, turn)?,
+        ty: fast_vector(alloc, size)?,
+    })
+}
+
+/// A loop over all elements round a load and a store.
 fn copy_loop(
     alloc: Global,
-    var: Name,
+    turn: &Name,
     size: u32,
     load: What,
     store: What,
-) -> Result<Stmt, AllocError> {
+) -> Result<Stmt, AllocError>
+    ensures { IfOk result (λ stmt. stmt ≡ template.copy_loop turn.now size load store) }
+{
     let mut body = Items::new(alloc);
     body.push(plain(load))?;
     body.push(plain(store))?;
     Ok(plain(What::For {
-        var,
+        var: turn.copy(alloc)?,
         lower: Bound::Int(0),
         upper: Bound::Int(size as i64),
         step: 1,
@@ -99,260 +189,185 @@ fn copy_loop(
     }))
 }
 
-/// The loop that copies a vector into fast memory; its made names begin at `number`.
-fn copy_in(alloc: Global, copied: Copied<'_>, number: u32) -> Result<Stmt, AllocError> {
-    let load = What::Load {
-        result: made(alloc, number.saturating_add(1))?,
-        memref: copied.slow.copy(alloc)?,
-        at: at_turn(alloc, made(alloc, number)?)?,
-        ty: vector(alloc, copied.size)?,
-    };
-    let store = What::Store {
-        value: made(alloc, number.saturating_add(1))?,
-        memref: made(alloc, copied.fast)?,
-        at: fast_at_turn(alloc, made(alloc, number)?)?,
-        ty: fast_vector(alloc, copied.size)?,
-    };
-    copy_loop(alloc, made(alloc, number)?, copied.size, load, store)
+/// The loop that copies a vector into fast memory.
+fn copy_in(alloc: Global, copied: &Copied) -> Result<Stmt, AllocError>
+    ensures { IfOk result (λ stmt. stmt ≡ template.copy_in (as_staged copied.now)) }
+{
+    let turn = &copied.in_turn;
+    let value = &copied.in_value;
+    let size = copied.size;
+    let from = load(alloc, value, &copied.memref, turn, size)?;
+    let to = fast_store(alloc, value, &copied.fast, turn, size)?;
+    copy_loop(alloc, turn, size, from, to)
 }
 
-/// The loop that copies a vector back; its made names begin at `number`.
-fn copy_out(alloc: Global, copied: Copied<'_>, number: u32) -> Result<Stmt, AllocError> {
-    let load = What::Load {
-        result: made(alloc, number.saturating_add(1))?,
-        memref: made(alloc, copied.fast)?,
-        at: fast_at_turn(alloc, made(alloc, number)?)?,
-        ty: fast_vector(alloc, copied.size)?,
-    };
-    let store = What::Store {
-        value: made(alloc, number.saturating_add(1))?,
-        memref: copied.slow.copy(alloc)?,
-        at: at_turn(alloc, made(alloc, number)?)?,
-        ty: vector(alloc, copied.size)?,
-    };
-    copy_loop(alloc, made(alloc, number)?, copied.size, load, store)
+/// The loop that copies a vector back.
+fn copy_out(alloc: Global, copied: &Copied) -> Result<Stmt, AllocError>
+    ensures { IfOk result (λ stmt. stmt ≡ template.copy_out (as_staged copied.now)) }
+{
+    let turn = &copied.out_turn;
+    let value = &copied.out_value;
+    let size = copied.size;
+    let from = fast_load(alloc, value, &copied.fast, turn, size)?;
+    let to = store(alloc, value, &copied.memref, turn, size)?;
+    copy_loop(alloc, turn, size, from, to)
 }
 
-/// What is copied for the placement at this place in the plan. Each placement has three made names before the loop: the
-/// fast memref, the copy loop's variable and the element.
-fn copied_at<'a>(args: &'a [Arg], placed: Placement, place: usize) -> Option<Copied<'a>> {
-    let arg = args.get(placed.argument)?;
-    let fast = u32::try_from(place.checked_mul(3)?).ok()?;
-    Some(Copied {
-        slow: &arg.name,
-        size: argument_size(arg),
-        fast,
-    })
-}
-
-/// Allocation and copy loop for one placement.
-fn before(alloc: Global, stmts: &mut Items<Stmt>, copied: Copied<'_>) -> Result<(), AllocError> {
+/// The fast memref and the copy loop before the loop.
+fn before(alloc: Global, copied: &Copied) -> Result<Items<Stmt>, AllocError>
+    ensures { IfOk result (λ stmts. stmts ≡ template.before (as_staged copied.now)) }
+{
+    let mut stmts = Items::new(alloc);
     stmts.push(plain(What::Alloc {
-        result: made(alloc, copied.fast)?,
+        result: copied.fast.copy(alloc)?,
         ty: fast_vector(alloc, copied.size)?,
     }))?;
-    stmts.push(copy_in(alloc, copied, copied.fast.saturating_add(1))?)
+    stmts.push(copy_in(alloc, copied)?)?;
+    Ok(stmts)
 }
 
-/// Copy loop, where the memref is stored to, and release for one placement.
-fn after(
-    alloc: Global,
-    stmts: &mut Items<Stmt>,
-    copied: Copied<'_>,
-    writes: bool,
-    number: u32,
-) -> Result<(), AllocError> {
-    if writes {
-        stmts.push(copy_out(alloc, copied, number)?)?;
+/// The copy loop, where the loop stores to the memref, and the release after the loop.
+fn after(alloc: Global, copied: &Copied) -> Result<Items<Stmt>, AllocError>
+    ensures { IfOk result (λ stmts. stmts ≡ template.after (as_staged copied.now)) }
+{
+    let mut stmts = Items::new(alloc);
+    if copied.writes {
+        stmts.push(copy_out(alloc, copied)?)?;
     }
     stmts.push(plain(What::Dealloc {
-        memref: made(alloc, copied.fast)?,
+        memref: copied.fast.copy(alloc)?,
         ty: fast_vector(alloc, copied.size)?,
-    }))
+    }))?;
+    Ok(stmts)
 }
 
-/// A memref's fast one with its type, where it is staged.
-fn redirected(
+/// What stands before the loop, in the plan's order.
+pub(crate) fn all_before(alloc: Global, plan: &[Copied]) -> Result<Items<Stmt>, AllocError>
+    ensures { IfOk result (λ stmts. stmts ≡ flat_map template.before (map as_staged plan.now)) }
+{
+    let mut stmts = Items::new(alloc);
+    for copied in plan {
+        stmts.append(before(alloc, copied)?)?;
+    }
+    Ok(stmts)
+}
+
+/// What stands after the loop, in reverse of the plan's order.
+pub(crate) fn all_after(alloc: Global, plan: &[Copied]) -> Result<Items<Stmt>, AllocError>
+    ensures { IfOk result (λ stmts. stmts ≡ flat_map template.after (reverse (map as_staged plan.now))) }
+{
+    let mut stmts = Items::new(alloc);
+    for copied in plan {
+        let mut part = after(alloc, copied)?;
+        part.append(stmts)?;
+        stmts = part;
+    }
+    Ok(stmts)
+}
+
+/// The fast memref of a staged one.
+fn fast_of<'a>(plan: &'a [Copied], memref: &Name) -> Option<&'a Name>
+    ensures { option_copied result ≡ template.fast_of (map as_staged plan.now) memref.now }
+{
+    for copied in plan {
+        if copied.memref.is(memref) {
+            return Some(&copied.fast);
+        }
+    }
+    None
+}
+
+/// A load of the loop's body, in fast memory where its memref is staged.
+fn redirect_load(
     alloc: Global,
-    args: &[Arg],
-    plan: &[Placement],
+    plan: &[Copied],
+    value: &Name,
     memref: &Name,
-) -> Result<Option<(Name, MemrefType)>, AllocError> {
-    let Some(argument) = argument_of(args, memref) else {
-        return Ok(None);
-    };
-    let Some(place) = plan.iter().position(|placed| placed.argument == argument) else {
-        return Ok(None);
-    };
-    let Some(copied) = copied_at(
-        args,
-        Placement {
-            argument,
-            writes: false,
-        },
-        place,
-    ) else {
-        return Ok(None);
-    };
-    Ok(Some((made(alloc, copied.fast)?, fast_vector(alloc, copied.size)?)))
+    at: &Access,
+    ty: &MemrefType,
+) -> Result<What, AllocError>
+    ensures { IfOk result (λ what. what ≡ template.redirect (map as_staged plan.now) (What.Load value.now memref.now at.now ty.now)) }
+{
+    let result = value.copy(alloc)?;
+    match fast_of(plan, memref) {
+        Some(memref) => Ok(What::Load {
+            result,
+            memref: memref.copy(alloc)?,
+            at: in_first_half(alloc, at)?,
+            ty: fast(alloc, ty)?,
+        }),
+        None => Ok(What::Load {
+            result,
+            memref: memref.copy(alloc)?,
+            at: at.copy(alloc)?,
+            ty: ty.copy(alloc)?,
+        }),
+    }
 }
 
-/// A statement of the body, with its access in fast memory.
-fn in_fast_memory(
+/// A store of the loop's body, in fast memory where its memref is staged.
+fn redirect_store(
     alloc: Global,
-    args: &[Arg],
-    plan: &[Placement],
-    var: &Name,
-    what: &What,
-) -> Result<What, AllocError> {
+    plan: &[Copied],
+    value: &Name,
+    memref: &Name,
+    at: &Access,
+    ty: &MemrefType,
+) -> Result<What, AllocError>
+    ensures { IfOk result (λ what. what ≡ template.redirect (map as_staged plan.now) (What.Store value.now memref.now at.now ty.now)) }
+{
+    let value = value.copy(alloc)?;
+    match fast_of(plan, memref) {
+        Some(memref) => Ok(What::Store {
+            value,
+            memref: memref.copy(alloc)?,
+            at: in_first_half(alloc, at)?,
+            ty: fast(alloc, ty)?,
+        }),
+        None => Ok(What::Store {
+            value,
+            memref: memref.copy(alloc)?,
+            at: at.copy(alloc)?,
+            ty: ty.copy(alloc)?,
+        }),
+    }
+}
+
+/// What a statement of the loop's body is, with its access in fast memory.
+fn redirect(alloc: Global, plan: &[Copied], what: &What) -> Result<What, AllocError>
+    ensures { IfOk result (λ redirected. redirected ≡ template.redirect (map as_staged plan.now) what.now) }
+{
     match what {
-        What::Load { result, memref, .. } => match redirected(alloc, args, plan, memref)? {
-            Some((memref, ty)) => Ok(What::Load {
-                result: result.copy(alloc)?,
-                memref,
-                at: fast_at_turn(alloc, var.copy(alloc)?)?,
-                ty,
-            }),
-            None => what.copy(alloc),
-        },
-        What::Store { value, memref, .. } => match redirected(alloc, args, plan, memref)? {
-            Some((memref, ty)) => Ok(What::Store {
-                value: value.copy(alloc)?,
-                memref,
-                at: fast_at_turn(alloc, var.copy(alloc)?)?,
-                ty,
-            }),
-            None => what.copy(alloc),
-        },
+        What::Load {
+            result,
+            memref,
+            at,
+            ty,
+        } => redirect_load(alloc, plan, result, memref, at, ty),
+        What::Store {
+            value,
+            memref,
+            at,
+            ty,
+        } => redirect_store(alloc, plan, value, memref, at, ty),
         _ => what.copy(alloc),
     }
 }
 
-fn redirect_body(
+/// The loop's body with its accesses in fast memory, each statement with its own line.
+pub(crate) fn redirect_body(
     alloc: Global,
-    args: &[Arg],
-    plan: &[Placement],
-    var: &Name,
+    plan: &[Copied],
     body: &[Stmt],
-) -> Result<Items<Stmt>, AllocError> {
+) -> Result<Items<Stmt>, AllocError>
+    ensures { IfOk result (λ stmts. stmts ≡ map (template.redirect_stmt (map as_staged plan.now)) body.now) }
+{
     let mut stmts = Items::new(alloc);
     for stmt in body {
         stmts.push(Stmt {
             line: stmt.line,
-            what: in_fast_memory(alloc, args, plan, var, &stmt.what)?,
+            what: redirect(alloc, plan, &stmt.what)?,
         })?;
     }
     Ok(stmts)
-}
-
-fn push_before(
-    alloc: Global,
-    stmts: &mut Items<Stmt>,
-    args: &[Arg],
-    plan: &[Placement],
-) -> Result<(), AllocError> {
-    for (place, placed) in plan.iter().enumerate() {
-        if let Some(copied) = copied_at(args, *placed, place) {
-            before(alloc, stmts, copied)?;
-        }
-    }
-    Ok(())
-}
-
-fn push_after(
-    alloc: Global,
-    stmts: &mut Items<Stmt>,
-    args: &[Arg],
-    plan: &[Placement],
-) -> Result<(), AllocError> {
-    let mut number: u32 = u32::try_from(plan.len().saturating_mul(3)).unwrap_or(u32::MAX);
-    for (place, placed) in plan.iter().enumerate().rev() {
-        if let Some(copied) = copied_at(args, *placed, place) {
-            after(alloc, stmts, copied, placed.writes, number)?;
-            if placed.writes {
-                number = number.saturating_add(2);
-            }
-        }
-    }
-    Ok(())
-}
-
-/// The staged loop with what stands before and behind it.
-fn staged_loop(
-    alloc: Global,
-    args: &[Arg],
-    plan: &[Placement],
-    line: u32,
-    what: &What,
-) -> Result<Items<Stmt>, AllocError> {
-    let mut stmts = Items::new(alloc);
-    if let What::For {
-        var,
-        lower,
-        upper,
-        step,
-        body,
-    } = what
-    {
-        push_before(alloc, &mut stmts, args, plan)?;
-        stmts.push(Stmt {
-            line,
-            what: What::For {
-                var: var.copy(alloc)?,
-                lower: lower.copy(alloc)?,
-                upper: upper.copy(alloc)?,
-                step: *step,
-                body: redirect_body(alloc, args, plan, var, body.as_slice())?,
-            },
-        })?;
-        push_after(alloc, &mut stmts, args, plan)?;
-    }
-    Ok(stmts)
-}
-
-fn copy_args(alloc: Global, args: &[Arg]) -> Result<Items<Arg>, AllocError> {
-    let mut copies = Items::new(alloc);
-    for arg in args {
-        copies.push(arg.copy(alloc)?)?;
-    }
-    Ok(copies)
-}
-
-/// A staged module with the plan that it follows.
-#[derive(Drop)]
-pub struct Staged {
-    pub module: Module,
-    /// What is staged, in order of first access.
-    pub placements: Items<Placement>,
-    /// The line of the loop.
-    pub line: u32,
-}
-
-/// The staged module, where the module is of the first form.
-pub fn stage_first(alloc: Global, module: &Module) -> Result<Option<Staged>, AllocError> {
-    if !is_first_form(module) {
-        return Ok(None);
-    }
-    let [looped, last] = module.body.as_slice() else {
-        return Ok(None);
-    };
-    let args = module.args.as_slice();
-    let placements = placements(alloc, args, &looped.what)?;
-    let mut body = staged_loop(
-        alloc,
-        args,
-        placements.as_slice(),
-        looped.line,
-        &looped.what,
-    )?;
-    body.push(last.copy(alloc)?)?;
-    Ok(Some(Staged {
-        module: Module {
-            name: module.name.copy(alloc)?,
-            args: copy_args(alloc, args)?,
-            body,
-        },
-        placements: Items::from_vec(placements),
-        line: looped.line,
-    }))
 }

@@ -1,5 +1,5 @@
 -- Proofs of the worked numbers, by computing.
-use Rattle.std.proofs.Common.{◌≡◌, ℕ, ℤ, pos, negsuc, List, [], ◌∷◌, ◌++◌, refl, arith}
+use Rattle.std.proofs.Common.{◌≡◌, pos, [], ◌∷◌, refl, arith}
 use Rattle.std.specs.Prelude.{decimal}
 use Rattle.std.proofs.lemmas.Fmt.{decimal_digit}
 use Rattle.affine_expr.specs.Value.{floor_div, ceil_div, floor_mod}
@@ -70,7 +70,8 @@ faulted = (
   simp nests refl,
   simp (nests, values) refl,
   simp (nests, values) refl,
-  simp (nests, values) refl)
+  simp (nests, values) refl,
+)
 
 pub strided : Strided
 unfolding prompt prompt_step acts put_half put_halves started module_actions start_env actions action_of after_plain turns lower_of upper_of holds_at place_of tag_of results_of holds floor_div ceil_div floor_mod folded direct_step read operation wrapped unsigned put same_name

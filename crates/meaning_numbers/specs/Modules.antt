@@ -1,21 +1,18 @@
 -- Small modules.
-use Rattle.std.specs.Prelude.{ℕ, ℤ, pos, negsuc, Bool, false, List, [], ◌∷◌, ◌++◌, Option, Some, None, codes}
-use Rattle.affine_expr.specs.declared.expr.Expr.{Expr, Dim, Sym, Const, Neg, Add, Sub, Mul, FloorDiv, CeilDiv, Mod}
+use Rattle.std.specs.Prelude.{ℕ, ℤ, pos, false, List, [], ◌∷◌, ◌++◌, Some, None, codes}
+use Rattle.affine_expr.specs.declared.expr.Expr.{Expr, Dim, Const, Mod}
 use Rattle.affine_ast.specs.declared.name.Name.{Name}
 use Rattle.affine_ast.specs.declared.image.Image.{Image}
 use Rattle.affine_ast.specs.declared.image.Cells.{Cells}
 use Rattle.affine_ast.specs.declared.module.Arg.{Arg}
-use Rattle.affine_ast.specs.declared.module.ArgKind.TheVariants.{Memref, Index}
+use Rattle.affine_ast.specs.declared.module.ArgKind.TheVariants.{Memref}
 use Rattle.affine_ast.specs.declared.module.Module.{Module}
 use Rattle.affine_ast.specs.declared.types.Access.{Access}
 use Rattle.affine_ast.specs.declared.types.Bound.TheVariants.{Int}
 use Rattle.affine_ast.specs.declared.types.Element.{Element}
-use Rattle.affine_ast.specs.declared.types.Element.TheVariants.{I8, I16, I32, I64}
-use Rattle.affine_expr.specs.declared.map.Constraint.{Constraint}
+use Rattle.affine_ast.specs.declared.types.Element.TheVariants.{I8, I32}
 use Rattle.affine_expr.specs.declared.map.Rel.TheVariants as rel
-use Rattle.affine_expr.specs.declared.map.Set.{Set}
 use Rattle.affine_ast.specs.declared.types.Bound.{Bound}
-use Rattle.affine_ast.specs.declared.types.Bound.TheVariants as bound
 use Rattle.affine_ast.specs.declared.types.MemrefType.{MemrefType}
 use Rattle.affine_ast.specs.declared.types.Scalar.TheVariants as scalar
 use Rattle.affine_ast.specs.declared.stmt.Stmt.{Stmt}
@@ -44,23 +41,31 @@ at e n = record { map = record { dims = 1; syms = 0; results = e ∷ [] }; opera
 
 abbrev pub A : Name
 A = named (codes "A")
+
 abbrev pub B : Name
 B = named (codes "B")
+
 abbrev pub i : Name
 i = named (codes "i")
+
 abbrev pub zero_ : Name
 zero_ = named (codes "0")
+
 abbrev pub one_ : Name
 one_ = named (codes "1")
+
 abbrev pub c : Name
 c = named (codes "c")
 
 abbrev pub load_a : Stmt
 load_a = stmt (Load zero_ A (at (Dim 0) i) (slow 8 I32))
+
 abbrev pub one_more : Stmt
 one_more = stmt (Constant c (pos 1) (scalar.Int I32))
+
 abbrev pub add_one : Stmt
 add_one = stmt (Binary one_ op.Add zero_ c (scalar.Int I32))
+
 abbrev pub store_b : Stmt
 store_b = stmt (Store one_ B (at (Dim 0) i) (slow 8 I32))
 
@@ -71,16 +76,16 @@ raise high = record {
   args = memref_arg A (slow 8 I32) ∷ memref_arg B (slow 8 I32) ∷ [];
   body =
       stmt (For i (Int (pos 0)) (Int high) (pos 1) (
-        load_a ∷ one_more ∷ add_one ∷ store_b ∷ []))
+      load_a ∷ one_more ∷ add_one ∷ store_b ∷ []))
       ∷ stmt Return ∷ [];
 }
 
 abbrev pub image : List (List ℤ) → Image
 image rows = record { memrefs = cells rows; symbols = [] }
   where
-  cells : List (List ℤ) → List Cells
-  cells [] = []
-  cells (r ∷ rs) = record { values = r } ∷ cells rs
+    cells : List (List ℤ) → List Cells
+    cells [] = []
+    cells (r ∷ rs) = record { values = r } ∷ cells rs
 
 -- where i is even, 7 goes to A
 abbrev pub evens : Module
@@ -89,9 +94,9 @@ evens = record {
   args = memref_arg A (slow 8 I32) ∷ [];
   body =
       stmt (For i (Int (pos 0)) (Int (pos 8)) (pos 1) (
-        stmt (Constant c (pos 7) (scalar.Int I32))
-        ∷ stmt (If (record { dims = 1; syms = 0; rows = record { left = Mod (Dim 0) (Const (pos 2)); rel = rel.Eq; right = Const (pos 0) } ∷ [] }) (i ∷ [])
-          (stmt (Store c A (at (Dim 0) i) (slow 8 I32)) ∷ []) None) ∷ []))
+      stmt (Constant c (pos 7) (scalar.Int I32))
+      ∷ stmt (If (record { dims = 1; syms = 0; rows = record { left = Mod (Dim 0) (Const (pos 2)); rel = rel.Eq; right = Const (pos 0) } ∷ [] }) (i ∷ [])
+      (stmt (Store c A (at (Dim 0) i) (slow 8 I32)) ∷ []) None) ∷ []))
       ∷ stmt Return ∷ [];
 }
 
@@ -102,10 +107,10 @@ operates o element = record {
   args = memref_arg A (slow 1 element) ∷ memref_arg B (slow 1 element) ∷ [];
   body =
       stmt (For i (Int (pos 0)) (Int (pos 1)) (pos 1) (
-        stmt (Load zero_ A (at (Dim 0) i) (slow 1 element))
-        ∷ stmt (Load one_ B (at (Dim 0) i) (slow 1 element))
-        ∷ stmt (Binary c o zero_ one_ (scalar.Int element))
-        ∷ stmt (Store c A (at (Dim 0) i) (slow 1 element)) ∷ []))
+      stmt (Load zero_ A (at (Dim 0) i) (slow 1 element))
+      ∷ stmt (Load one_ B (at (Dim 0) i) (slow 1 element))
+      ∷ stmt (Binary c o zero_ one_ (scalar.Int element))
+      ∷ stmt (Store c A (at (Dim 0) i) (slow 1 element)) ∷ []))
       ∷ stmt Return ∷ [];
 }
 
@@ -116,8 +121,8 @@ bounds low high = record {
   args = memref_arg A (slow 8 I32) ∷ [];
   body =
       stmt (For i low high (pos 3) (
-        stmt (Constant c (pos 1) (scalar.Int I32))
-        ∷ stmt (Store c A (at (Dim 0) i) (slow 8 I32)) ∷ []))
+      stmt (Constant c (pos 1) (scalar.Int I32))
+      ∷ stmt (Store c A (at (Dim 0) i) (slow 8 I32)) ∷ []))
       ∷ stmt Return ∷ [];
 }
 
@@ -127,14 +132,19 @@ at_numbers es = record { map = record { dims = 0; syms = 0; results = es }; oper
 
 abbrev pub F : Name
 F = named (codes "F")
+
 abbrev pub T : Name
 T = named (codes "T")
+
 abbrev pub n : Name
 n = named (codes "n")
+
 abbrev pub s : Name
 s = named (codes "s")
+
 abbrev pub k : Name
 k = named (codes "k")
+
 abbrev pub five : Name
 five = named (codes "five")
 
@@ -201,17 +211,22 @@ strided = record {
 -- four loops inside one another round one constant
 abbrev pub deep : Module
 deep = record {
-  name = codes "deep"; args = [];
+  name = codes "deep";
+  args = [];
   body = stmt (round i (stmt (round n (stmt (round s (stmt (round k (stmt (Constant c (pos 1) (scalar.Int I32)) ∷ [])) ∷ [])) ∷ [])) ∷ [])) ∷ stmt Return ∷ [];
 }
   where
-  round : Name → List Stmt → What
-  round v body = For v (Int (pos 0)) (Int (pos 65536)) (pos 1) body
+    round : Name → List Stmt → What
+    round v body = For v (Int (pos 0)) (Int (pos 65536)) (pos 1) body
 
 -- the loop of `raise`
 abbrev pub raise_loop : ℤ → FirstLoop
 raise_loop high = record {
-  line = 0; var = i; low = pos 0; high = high; return_line = 0;
+  line = 0;
+  var = i;
+  low = pos 0;
+  high = high;
+  return_line = 0;
   body =
       load_a ∷ one_more ∷ add_one ∷ store_b ∷ [];
 }
@@ -228,20 +243,20 @@ abbrev pub staged_raise : List Stmt
 staged_raise =
     stmt (Alloc (copy (codes "0")) (fast (1 ∷ 8 ∷ []) I32))
     ∷ stmt (For (copy (codes "1")) (Int (pos 0)) (Int (pos 8)) (pos 1) (
-      stmt (Load (copy (codes "2")) A (at (Dim 0) (copy (codes "1"))) (slow 8 I32))
-      ∷ stmt (Store (copy (codes "2")) (copy (codes "0")) (half (copy (codes "1"))) (fast (1 ∷ 8 ∷ []) I32)) ∷ []))
+    stmt (Load (copy (codes "2")) A (at (Dim 0) (copy (codes "1"))) (slow 8 I32))
+    ∷ stmt (Store (copy (codes "2")) (copy (codes "0")) (half (copy (codes "1"))) (fast (1 ∷ 8 ∷ []) I32)) ∷ []))
     ∷ stmt (Alloc (copy (codes "3")) (fast (1 ∷ 8 ∷ []) I32))
     ∷ stmt (For (copy (codes "4")) (Int (pos 0)) (Int (pos 8)) (pos 1) (
-      stmt (Load (copy (codes "5")) B (at (Dim 0) (copy (codes "4"))) (slow 8 I32))
-      ∷ stmt (Store (copy (codes "5")) (copy (codes "3")) (half (copy (codes "4"))) (fast (1 ∷ 8 ∷ []) I32)) ∷ []))
+    stmt (Load (copy (codes "5")) B (at (Dim 0) (copy (codes "4"))) (slow 8 I32))
+    ∷ stmt (Store (copy (codes "5")) (copy (codes "3")) (half (copy (codes "4"))) (fast (1 ∷ 8 ∷ []) I32)) ∷ []))
     ∷ stmt (For i (Int (pos 0)) (Int (pos 8)) (pos 1) (
-      stmt (Load zero_ (copy (codes "0")) (half i) (fast (1 ∷ 8 ∷ []) I32))
-      ∷ stmt (Constant c (pos 1) (scalar.Int I32))
-      ∷ stmt (Binary one_ op.Add zero_ c (scalar.Int I32))
-      ∷ stmt (Store one_ (copy (codes "3")) (half i) (fast (1 ∷ 8 ∷ []) I32)) ∷ []))
+    stmt (Load zero_ (copy (codes "0")) (half i) (fast (1 ∷ 8 ∷ []) I32))
+    ∷ stmt (Constant c (pos 1) (scalar.Int I32))
+    ∷ stmt (Binary one_ op.Add zero_ c (scalar.Int I32))
+    ∷ stmt (Store one_ (copy (codes "3")) (half i) (fast (1 ∷ 8 ∷ []) I32)) ∷ []))
     ∷ stmt (For (copy (codes "6")) (Int (pos 0)) (Int (pos 8)) (pos 1) (
-      stmt (Load (copy (codes "7")) (copy (codes "3")) (half (copy (codes "6"))) (fast (1 ∷ 8 ∷ []) I32))
-      ∷ stmt (Store (copy (codes "7")) B (at (Dim 0) (copy (codes "6"))) (slow 8 I32)) ∷ []))
+    stmt (Load (copy (codes "7")) (copy (codes "3")) (half (copy (codes "6"))) (fast (1 ∷ 8 ∷ []) I32))
+    ∷ stmt (Store (copy (codes "7")) B (at (Dim 0) (copy (codes "6"))) (slow 8 I32)) ∷ []))
     ∷ stmt (Dealloc (copy (codes "3")) (fast (1 ∷ 8 ∷ []) I32))
     ∷ stmt (Dealloc (copy (codes "0")) (fast (1 ∷ 8 ∷ []) I32))
     ∷ stmt Return ∷ []

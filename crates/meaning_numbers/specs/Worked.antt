@@ -1,6 +1,6 @@
 -- Worked numbers, as statements.
-use Rattle.std.specs.Prelude.{◌≡◌, ◌++◌, ℕ, ℤ, pos, negsuc, neg_ℤ, Bool, true, false, List, [], ◌∷◌, Option, Some, None, codes}
-use Rattle.affine_expr.specs.declared.expr.Expr.{Dim, Sym, Const, Neg, Add, Sub, Mul, FloorDiv, CeilDiv, Mod}
+use Rattle.std.specs.Prelude.{◌≡◌, ◌++◌, ℤ, pos, negsuc, false, List, [], ◌∷◌}
+use Rattle.affine_expr.specs.declared.expr.Expr.{Dim, Const, FloorDiv, CeilDiv, Mod}
 use Rattle.affine_expr.specs.Value.{value}
 use Rattle.affine_ast.specs.declared.types.Bound.TheVariants as bound
 use Rattle.affine_ast.specs.declared.types.Element.TheVariants.{I8, I32}
@@ -8,7 +8,7 @@ use Rattle.int_ops.specs.declared.operation.Op.TheVariants as op
 use Rattle.bus_model.specs.declared.step.FaultKind.TheVariants as fault
 use Rattle.bus_model.specs.declared.step.Verdict.TheVariants as verdict
 use Rattle.nest_meaning.specs.Turns.{turns}
-use Rattle.nest_meaning.specs.Direct.{Outcome, plain, state_of, verdict_of}
+use Rattle.nest_meaning.specs.Direct.{plain, state_of, verdict_of}
 use Rattle.nest_meaning.specs.Work.{work}
 use Rattle.prompt_meaning.specs.Prompt.{prompt, prompt_verdict, prompt_slow, prompt_numbers}
 use Rattle.copy_emit.specs.Template.{input_body, staged_body}

@@ -5,8 +5,21 @@
 #![tactic(auto)]
 
 ghost use Rattle.meaning_numbers.specs.Worked.{
-    Quotients, LoopTurns, Raised, NinthTurn, EvenTurns, WrappedSum, LeastByMinusOne, SeveralResults, Waited, Faulted, Strided, Works,
-    Template, StagedRaise, RaiseIsFirst
+  Quotients,
+  LoopTurns,
+  Raised,
+  NinthTurn,
+  EvenTurns,
+  WrappedSum,
+  LeastByMinusOne,
+  SeveralResults,
+  Waited,
+  Faulted,
+  Strided,
+  Works,
+  Template,
+  StagedRaise,
+  RaiseIsFirst,
 };
 
 /// Values of expressions, turns of loops, the direct meaning of small modules and their work.
@@ -20,8 +33,7 @@ pub fn direct_numbers()
     ensures least_by_minus_one { LeastByMinusOne }
     ensures several_results { SeveralResults }
     ensures works { Works }
-{
-}
+{}
 
 /// The prompt meaning of modules with one transfer, its end, its numbers and each fault; and a staged module, statement by
 /// statement and in its run.
@@ -32,5 +44,4 @@ pub fn prompt_numbers()
     ensures template { Template }
     ensures staged_raise { StagedRaise }
     ensures raise_is_first { RaiseIsFirst }
-{
-}
+{}

@@ -1,8 +1,8 @@
 -- Laws of lists of actions and of folds over them.
-use Rattle.std.proofs.Common.{◌≡◌, ℕ, zero, suc, ◌+◌, ◌-◌, ◌≤◌, ℤ, pos, negsuc, ◌+ℤ◌, ◌-ℤ◌, ◌<ℤ◌, ◌≤ℤ◌, List, [], ◌∷◌, ◌++◌, refl, sym, ap, ◌∙◌, arith, Bool, true, false}
+use Rattle.std.proofs.Common.{◌≡◌, ℕ, zero, suc, ◌-◌, ◌≤◌, ℤ, pos, negsuc, ◌+ℤ◌, ◌-ℤ◌, ◌<ℤ◌, ◌≤ℤ◌, List, [], ◌∷◌, ◌++◌, refl, sym, ap, ◌∙◌, arith, Bool, true, false}
 use mathlib.Core.Path.{fun_ext}
 use Rattle.std.specs.Int.{int_max}
-use Rattle.std.specs.Prelude.{flat_map, Option, Some, None, int_lt, if◌then◌else◌}
+use Rattle.std.specs.Prelude.{flat_map, int_lt, if◌then◌else◌}
 use Rattle.std.proofs.lemmas.List.{append_assoc}
 use Rattle.std.proofs.lemmas.Int.{ints}
 use borrow.Author.Differences.{up, down}
@@ -101,12 +101,12 @@ pub turns_more : (a b s : ℤ) → a <ℤ b → turns a b s ≡ a ∷ turns (a +
 unfolding turns
 turns_more a b s less = more (int_max (pos 1) s) (grind (arith, ints))
   where
-  more : (s : ℤ) → pos 0 <ℤ s → turns_within (gap (b -ℤ a)) a b s ≡ a ∷ turns_within (gap (b -ℤ (a +ℤ s))) (a +ℤ s) b s
-  more s h =
-    let e : int_lt a b ≡ true = grind (arith, ints, less) in
-    let k : gap (b -ℤ a) ≡ suc (gap (b -ℤ a) - 1) = omega (arith, ints, gap_is (b -ℤ a), less) in
-    let l : gap (b -ℤ (a +ℤ s)) ≤ gap (b -ℤ a) - 1 = omega (arith, ints, gap_is (b -ℤ a), gap_is (b -ℤ (a +ℤ s)), less, h) in
-    ap (λ n. turns_within n a b s) k ∙ rw e (ap (λ ts. a ∷ ts) (enough (gap (b -ℤ a) - 1) (gap (b -ℤ (a +ℤ s))) (a +ℤ s) b s h l (omega arith)))
+    more : (s : ℤ) → pos 0 <ℤ s → turns_within (gap (b -ℤ a)) a b s ≡ a ∷ turns_within (gap (b -ℤ (a +ℤ s))) (a +ℤ s) b s
+    more s h =
+        let e : int_lt a b ≡ true = grind (arith, ints, less) in
+        let k : gap (b -ℤ a) ≡ suc (gap (b -ℤ a) - 1) = omega (arith, ints, gap_is (b -ℤ a), less) in
+        let l : gap (b -ℤ (a +ℤ s)) ≤ gap (b -ℤ a) - 1 = omega (arith, ints, gap_is (b -ℤ a), gap_is (b -ℤ (a +ℤ s)), less, h) in
+        ap (λ n. turns_within n a b s) k ∙ rw e (ap (λ ts. a ∷ ts) (enough (gap (b -ℤ a) - 1) (gap (b -ℤ (a +ℤ s))) (a +ℤ s) b s h l (omega arith)))
 
 pub turns_end : (a b s : ℤ) → b ≤ℤ a → turns a b s ≡ []
 unfolding turns

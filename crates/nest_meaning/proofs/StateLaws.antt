@@ -1,13 +1,13 @@
 -- What an action leaves as it was.
-use Rattle.std.proofs.Common.{◌≡◌, ◌≢◌, ℕ, ℤ, pos, List, [], ◌∷◌, length, length-set, get_or, refl, sym, ap, ◌∙◌, Bool, true, false}
+use Rattle.std.proofs.Common.{◌≡◌, ℕ, ℤ, pos, length, length-set, get_or, refl, sym, ap, Bool, false}
 use Rattle.std.specs.Prelude.{Option, Some, None}
 use Rattle.std.proofs.lemmas.List.{get_or-set_other}
 use Rattle.affine_ast.specs.declared.name.Name.{Name}
-use Rattle.affine_ast.specs.Names.{same_name, put}
+use Rattle.affine_ast.specs.Names.{same_name}
 use Rattle.affine_ast.proofs.Names.{put-other}
 use Rattle.int_ops.specs.Operation.{operation}
 use Rattle.nest_meaning.specs.Action.{Place, Slow, Fast, Outside, Action, Known, Sets, Loads, Stores, RawLoads, RawStores, Operates, Converts, Allocates, Releases, AllocatesTags, ReleasesTags, Starts, Waits, Faults, Returns}
-use Rattle.nest_meaning.specs.Direct.{Outcome, End, Fault, State, state_of, keep, write, read, raw_place, direct_load, direct_store, keep_result, direct_step}
+use Rattle.nest_meaning.specs.Direct.{State, state_of, read, raw_place, direct_load, direct_store, keep_result, direct_step}
 
 -- whether an action gives a name a new value
 abbrev pub sets : Action → Name → Bool

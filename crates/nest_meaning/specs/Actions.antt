@@ -1,9 +1,7 @@
 -- The actions of statements, in order. No memory is read and no fault of the run stops them.
-use Rattle.std.specs.Prelude.{ℕ, zero, suc, ◌+◌, ◌%◌, ℤ, Bool, true, false, ◌&&◌, List, [], ◌∷◌, ◌++◌, map, flat_map, Option, Some, None, nat_eq, nat_le, if◌then◌else◌}
-use Rattle.affine_expr.specs.declared.map.Set.{Set}
+use Rattle.std.specs.Prelude.{ℕ, suc, ◌+◌, ◌%◌, ℤ, Bool, true, false, ◌&&◌, List, [], ◌∷◌, ◌++◌, map, flat_map, Option, Some, None, nat_eq, nat_le, if◌then◌else◌}
 use Rattle.affine_ast.specs.declared.name.Name.{Name}
 use Rattle.affine_ast.specs.declared.types.Access.{Access}
-use Rattle.affine_ast.specs.declared.types.Bound.{Bound}
 use Rattle.affine_ast.specs.declared.types.MemrefType.{MemrefType}
 use Rattle.affine_ast.specs.declared.types.Scalar.{Scalar}
 use Rattle.affine_ast.specs.declared.types.Scalar.TheVariants.{Int, Index}
@@ -13,8 +11,8 @@ use Rattle.bus_model.specs.declared.step.FaultKind.TheVariants.{Bounds, Shape}
 use Rattle.bus_model.specs.declared.transfer.Transfer.{Transfer}
 use Rattle.nest_meaning.specs.Turns.{turns, gap}
 use Rattle.nest_meaning.specs.Transfers.{ends_by}
-use Rattle.nest_meaning.specs.Action.{Home, SlowMemref, FastMemref, TagMemref, Place, Slow, Fast, Outside, Operand, Action, Known, Sets, Loads, Stores, RawLoads, RawStores, Operates, Converts, Allocates, Releases, AllocatesTags, ReleasesTags, Starts, Waits, Faults, Returns}
-use Rattle.nest_meaning.specs.Static.{Env, knows, forgets, number, operand, results_of, picked, lower_of, upper_of, holds_at, product, place_at, place_of, tag_of, scalar_bits}
+use Rattle.nest_meaning.specs.Action.{Home, SlowMemref, FastMemref, TagMemref, Place, Slow, Fast, Action, Known, Sets, Loads, Stores, RawLoads, RawStores, Operates, Converts, Allocates, Releases, AllocatesTags, ReleasesTags, Starts, Waits, Faults, Returns}
+use Rattle.nest_meaning.specs.Static.{Env, knows, forgets, number, operand, results_of, picked, lower_of, upper_of, holds_at, product, place_of, tag_of, scalar_bits}
 
 abbrev pub constant_of : Name → ℤ → Scalar → Action
 constant_of r z (Int e) = Sets r z

@@ -7,3 +7,5 @@ pub mod Memory
 pub mod Direct
 pub mod Work
 pub mod Bounded
+pub mod Pure
+pub mod WorkLaw

@@ -1,5 +1,5 @@
 -- Memories of a module: what fits it, and what its names stand for at the start.
-use Rattle.std.specs.Prelude.{◌≡◌, ℕ, zero, suc, ◌+◌, ℤ, pos, ◌≤ℤ◌, List, [], ◌∷◌, length, drop, flat_map, fold, All, Option, Some, None, slice_index_or}
+use Rattle.std.specs.Prelude.{◌≡◌, ℕ, suc, ◌+◌, ℤ, pos, ◌≤ℤ◌, List, [], ◌∷◌, length, drop, flat_map, fold, All, Option, Some, None, slice_index_or}
 use Rattle.affine_expr.specs.declared.map.Interval.{Interval}
 use Rattle.affine_ast.specs.declared.name.Name.{Name}
 use Rattle.affine_ast.specs.declared.image.Cells.{Cells}
@@ -11,7 +11,7 @@ use Rattle.affine_ast.specs.declared.module.Module.{Module}
 use Rattle.affine_ast.specs.Names.{put}
 use Rattle.affine_ast.specs.Nest.{nest}
 use Rattle.int_ops.specs.Wrapped.{InRange}
-use Rattle.nest_meaning.specs.Action.{Home, SlowMemref, Action}
+use Rattle.nest_meaning.specs.Action.{SlowMemref, Action}
 use Rattle.nest_meaning.specs.Static.{Env, knows, product, element_bits}
 use Rattle.nest_meaning.specs.Actions.{actions}
 

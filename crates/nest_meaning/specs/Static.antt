@@ -1,5 +1,5 @@
 -- What is known before the first cell is read: the numbers of names, what memrefs stand for, and places.
-use Rattle.std.specs.Prelude.{ℕ, zero, suc, ◌+◌, ◌*◌, ℤ, pos, negsuc, Bool, List, [], ◌∷◌, map, take, drop, length, fold, Option, Some, None, nat_lt, if◌then◌else◌, slice_index_or}
+use Rattle.std.specs.Prelude.{ℕ, ◌+◌, ◌*◌, ℤ, pos, negsuc, Bool, List, [], ◌∷◌, map, take, drop, fold, Option, Some, None, nat_lt, if◌then◌else◌, slice_index_or}
 use Rattle.std.specs.Int.{int_min, int_max}
 use Rattle.affine_expr.specs.declared.map.Set.{Set}
 use Rattle.affine_expr.specs.Value.{value}

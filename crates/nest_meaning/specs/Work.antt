@@ -1,5 +1,5 @@
 -- The work of a module: a bound on the number of its actions, from the text alone.
-use Rattle.std.specs.Prelude.{ℕ, zero, suc, ◌+◌, ◌*◌, ◌^◌, min, max, ℤ, pos, ◌+ℤ◌, ◌-ℤ◌, List, [], ◌∷◌, map, take, drop, fold, Option, Some, None, slice_index_or}
+use Rattle.std.specs.Prelude.{ℕ, ◌+◌, ◌*◌, ◌^◌, min, max, ℤ, pos, ◌-ℤ◌, List, [], ◌∷◌, map, take, drop, fold, slice_index_or}
 use Rattle.std.specs.Int.{int_min, int_max}
 use Rattle.affine_expr.specs.Value.{ceil_div}
 use Rattle.affine_expr.specs.Spread.{Range, only, range_of}
@@ -16,7 +16,7 @@ use Rattle.affine_ast.specs.declared.types.Pick.TheVariants.{Apply, Min, Max}
 use Rattle.affine_ast.specs.declared.types.Scalar.{Scalar}
 use Rattle.affine_ast.specs.declared.types.Scalar.TheVariants as scalar
 use Rattle.affine_ast.specs.Names.{put}
-use Rattle.affine_ast.specs.Nest.{Plain, Nest, Nothing, Loop, Branch, Does, Value, Load, Store, RawLoad, RawStore, Constant, Binary, Cast, Alloc, Dealloc, Start, Wait, Return, nest}
+use Rattle.affine_ast.specs.Nest.{Plain, Nest, Nothing, Loop, Branch, Does, Value, Load, RawLoad, Constant, Binary, Cast, Start, nest}
 use Rattle.nest_meaning.specs.Turns.{gap}
 use Rattle.nest_meaning.specs.Memory.{range_or}
 
@@ -60,13 +60,21 @@ turn_range a b = record { least = a; greatest = int_max a (b -ℤ pos 1) }
 abbrev pub turn_count : ℤ → ℤ → ℤ → ℕ
 turn_count a b step = gap (ceil_div (b -ℤ a) step)
 
+-- a name that holds data counts as 0 where an expression has it, as it does in the list of actions
+abbrev pub no_range : Name → Ranges → Ranges
+no_range r rho = put rho r (only (pos 0))
+
 abbrev pub ranges_after_constant : Name → ℤ → Scalar → Ranges → Ranges
-ranges_after_constant r z (scalar.Int element) rho = rho
+ranges_after_constant r z (scalar.Int element) rho = no_range r rho
 ranges_after_constant r z scalar.Index rho = put rho r (only z)
 
 abbrev pub ranges_after : Plain → Ranges → Ranges
 ranges_after (Value r pick at) rho = put rho r (picked_range pick (ranges_at rho at))
 ranges_after (Constant r z ty) rho = ranges_after_constant r z ty rho
+ranges_after (Load r m at ty) rho = no_range r rho
+ranges_after (RawLoad r m at ty) rho = no_range r rho
+ranges_after (Binary r op a b ty) rho = no_range r rho
+ranges_after (Cast r kind x from to) rho = no_range r rho
 ranges_after p rho = rho
 
 -- one for a plain statement, and the count and three for a start
@@ -85,9 +93,9 @@ full_work (Does line p rest) rho = plain_work p rho + full_work rest (ranges_aft
 abbrev pub arg_ranges : Ranges → Arg → Ranges
 arg_ranges rho arg = ranges_of_kind arg.kind
   where
-  ranges_of_kind : ArgKind → Ranges
-  ranges_of_kind (Memref ty) = rho
-  ranges_of_kind (Index range) = put rho arg.name (record { least = (range_or range).least; greatest = (range_or range).greatest })
+    ranges_of_kind : ArgKind → Ranges
+    ranges_of_kind (Memref ty) = rho
+    ranges_of_kind (Index range) = put rho arg.name (record { least = (range_or range).least; greatest = (range_or range).greatest })
 
 abbrev pub start_ranges : List Arg → Ranges
 start_ranges args = fold arg_ranges (λ n. only (pos 0)) args

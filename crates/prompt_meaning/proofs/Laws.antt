@@ -1,16 +1,15 @@
 -- Laws of the prompt meaning: tables of halves with some changed, and the count of actions.
-use Rattle.std.proofs.Common.{◌≡◌, ℕ, zero, suc, ◌+◌, ℤ, pos, List, [], ◌∷◌, length, refl, sym, ap, ◌∙◌, arith, Bool, true, false}
+use Rattle.std.proofs.Common.{◌≡◌, ℕ, suc, ◌+◌, ℤ, List, [], ◌∷◌, length, refl, sym, ap, ◌∙◌, arith, Bool, true, false}
 use Rattle.std.specs.Prelude.{◌&&◌, Option, Some, None, nat_eq, nat_le, if◌then◌else◌}
 use Rattle.std.proofs.lemmas.Bool.{eq-eqb}
 use Rattle.affine_ast.specs.declared.name.Name.{Name}
-use Rattle.affine_ast.specs.declared.types.Element.{Element}
 use Rattle.bus_model.specs.declared.step.FaultKind.{FaultKind}
 use Rattle.bus_model.specs.declared.step.FaultKind.TheVariants.{Touched, Race, Tag, Capacity, Shape}
 use Rattle.bus_model.specs.declared.transfer.Transfer.{Transfer}
 use Rattle.nest_meaning.specs.Action.{Place, Slow, Fast, Outside, Action, Known, Sets, Loads, Stores, RawLoads, RawStores, Operates, Converts, Allocates, Releases, AllocatesTags, ReleasesTags, Starts, Waits, Faults, Returns}
-use Rattle.nest_meaning.specs.Direct.{Outcome, End, Fault, then_do, folded, State, state_of, read, raw_place, direct_step}
+use Rattle.nest_meaning.specs.Direct.{Outcome, End, Fault, then_do, folded, State, state_of, raw_place}
 use Rattle.prompt_meaning.specs.Device.{Device, bytes_of, put_half, put_halves, allocated, is_away, is_started, has_away, has_started, load_races, store_races, start_races, recorded, copied_in, copied_out, started, record_of}
-use Rattle.prompt_meaning.specs.Prompt.{carried, refused, prompt_load, prompt_store, prompt_alloc, prompt_start, wait_on, acts, prompt_step}
+use Rattle.prompt_meaning.specs.Prompt.{carried, refused, prompt_load, prompt_store, prompt_start, wait_on, acts, prompt_step}
 
 -- a half that was changed, and another one
 pub half_same : (f : ℕ → ℕ → List ℤ) (n h m k : ℕ) (l : List ℤ) → (nat_eq n m && nat_eq h k) ≡ true → put_half f n h l m k ≡ l
@@ -57,9 +56,9 @@ count_started : (t : Transfer) (y : Device) → (started t y).actions ≡ y.acti
 unfolding started
 count_started t y = by t.incoming
   where
-  by : (b : Bool) → (recorded t (if b then copied_in t y else copied_out t y)).actions ≡ y.actions
-  by true = refl
-  by false = refl
+    by : (b : Bool) → (recorded t (if b then copied_in t y else copied_out t y)).actions ≡ y.actions
+    by true = refl
+    by false = refl
 
 count_start : (t : Transfer) (y : Device) → (state_of (prompt_start t y)).actions ≡ y.actions
 count_start t y =
@@ -102,10 +101,10 @@ module _ (filler : ℤ) (capacity : ℕ) where
   count_all [] y z h = let e : y ≡ z = cc in sym (ap (λ (y : Device). y.actions) e) ∙ (let k : y.actions ≡ y.actions + 0 = omega arith in k)
   count_all (a ∷ xs) y z h = by (prompt_step filler capacity a y) (count_step a y) h (λ w e. count_all xs w z e)
     where
-    by : (o : Outcome Device) → (state_of o).actions ≡ suc y.actions → then_do o (folded (prompt_step filler capacity) xs) ≡ End z
-        → ((w : Device) → folded (prompt_step filler capacity) xs w ≡ End z → z.actions ≡ w.actions + length xs) → z.actions ≡ y.actions + length (a ∷ xs)
-    by (End w) n e more = let k = more w e in omega (arith, n, k)
-    by (Fault k w) n e more = absurd (differ e)
-      where
-      differ : Fault k w ≡ End z → ⊥
-      differ e = cc
+      by : (o : Outcome Device) → (state_of o).actions ≡ suc y.actions → then_do o (folded (prompt_step filler capacity) xs) ≡ End z
+          → ((w : Device) → folded (prompt_step filler capacity) xs w ≡ End z → z.actions ≡ w.actions + length xs) → z.actions ≡ y.actions + length (a ∷ xs)
+      by (End w) n e more = let k = more w e in omega (arith, n, k)
+      by (Fault k w) n e more = absurd (differ e)
+        where
+          differ : Fault k w ≡ End z → ⊥
+          differ e = cc

@@ -1,5 +1,5 @@
 -- The state of a module with transfers, each of which completes at its start.
-use Rattle.std.specs.Prelude.{ℕ, suc, ◌+◌, ◌*◌, ◌-◌, max, ℤ, pos, Bool, false, ◌&&◌, List, [], ◌∷◌, ◌++◌, replicate, Option, Some, None, nat_eq, nat_lt, nat_le, if◌then◌else◌, slice_index_or, slice_set, fold}
+use Rattle.std.specs.Prelude.{ℕ, ◌+◌, ◌*◌, ◌-◌, max, ℤ, pos, Bool, false, ◌&&◌, List, [], ◌∷◌, ◌++◌, replicate, Option, Some, None, nat_eq, nat_lt, nat_le, if◌then◌else◌, slice_index_or, slice_set, fold}
 use Rattle.std.specs.List.{list_any}
 use Rattle.affine_ast.specs.declared.types.Element.{Element}
 use Rattle.int_ops.specs.Wrapped.{wrapped}

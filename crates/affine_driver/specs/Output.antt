@@ -1,0 +1,40 @@
+-- What `stage` writes.
+use Rattle.std.specs.Prelude.{◌≡◌, ℕ, ◌*◌, Bool, true, false, List, ◌++◌, codes}
+use Rattle.std.specs.Fmt.{decimal}
+use Rattle.std.specs.List.{flat_map}
+use Rattle.affine_ast.specs.declared.module.Module.{Module}
+use Rattle.affine_ast.specs.declared.name.Name.{Name}
+use Rattle.affine_ast.specs.Spelling.{name_text, spelling}
+use Rattle.first_path.specs.declared.place.Placement.{Placement}
+use Rattle.first_path.specs.declared.stage.Staged.{Staged}
+use Rattle.first_path.specs.Law.{IsStagedBy, RunsAs}
+
+-- the block, which is the first and only one, its line and the memref
+unfoldable pub subject_text : ℕ → Name → List ℕ
+subject_text line memref = codes "// block 0 line " ++ (decimal line ++ (codes " " ++ name_text memref))
+
+-- the bytes of the fast memref, of `i32`, and how many loops stand round the placement's loop
+unfoldable pub amount_text : ℕ → List ℕ
+amount_text size = codes ": staged " ++ (decimal (4 * size) ++ codes " bytes at depth 0, ")
+
+-- in which directions the memref is copied: always in, and out where the loop stores to it
+abbrev pub directions_text : Bool → List ℕ
+directions_text true = codes "in out\n"
+directions_text false = codes "in\n"
+
+-- the report line of a memref that is staged whole
+unfoldable pub report_line : ℕ → Placement → List ℕ
+report_line line placed = subject_text line placed.memref ++ (amount_text placed.size ++ directions_text placed.writes)
+
+-- the report: a line for each placement, in plan order
+abbrev pub report : ℕ → List Placement → List ℕ
+report line placements = flat_map (report_line line) placements
+
+-- the output of a text: report and printed spelling of the staged module of a module of the first form, which runs as
+-- that module does
+pub record IsOutput (output : List ℕ) : Type 0 where
+  pub input : Module
+  pub staged : Staged
+  pub by : IsStagedBy input staged
+  pub runs : RunsAs input staged.module
+  pub text : output ≡ report staged.line staged.placements ++ spelling staged.module

@@ -1,0 +1,8 @@
+use Rattle.std.proofs.lemmas.Result.{on_ok_weaker}
+use Rattle.affine_ast.specs.Spelling.{load_text}
+use Rattle.affine_print.proofs.Pieces.{three_pieces}
+use Rattle.affine_print.proofs.plain.put_load.Goals as goal
+
+pub returns : goal.returns
+unfolding load_text
+returns c = on_ok_weaker c.put_typed.result (λ e. three_pieces _ _ _ _ _ _ _ c.in_ok-put_defined.ensures c.in_ok-put_place.ensures e) c.put_typed.ensures

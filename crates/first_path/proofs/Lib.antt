@@ -1,0 +1,4 @@
+pub mod Plans
+pub mod Forms
+pub mod Planned
+pub mod Agreeing
