@@ -1,3 +1,9 @@
 pub mod Value
 pub mod Truth
 pub mod Spread
+pub mod Pure
+pub mod Bounded
+pub mod Guarded
+pub mod Spans
+pub mod Forms
+pub mod Linear

@@ -1,0 +1,306 @@
+-- The linear form of an expression has its value, where each local has its floor.
+use Rattle.std.proofs.Common.{◌≡◌, ℕ, zero, suc, ◌+◌, ◌<◌, ◌≤◌, Bool, true, false, cond, List, [], ◌∷◌, ◌++◌, length, get_or, replicate, Option, Some, None, Result, Ok, Err, ℤ, pos, neg_ℤ, ◌+ℤ◌, ◌-ℤ◌, ◌*ℤ◌, ◌<ℤ◌, int_lt, refl, sym, ◌∙◌, ap, subst, arith, append_assoc, append-nil, length-append}
+use Rattle.std.proofs.lemmas.Int.{ints}
+use Rattle.std.proofs.lemmas.Bool.{and_parts, ltb-true}
+use Rattle.std.proofs.lemmas.List.{length-replicate}
+use Rattle.std.proofs.Math.IntN.{*ℤ_comm}
+use Rattle.std.specs.Int.{int_div_euclid}
+use Rattle.num_row.proofs.Ring.{Var, ◌⊕◌, ◌⊗◌, Neg, ring}
+use Rattle.num_row.proofs.Floors.{floor_below, floor_above, ceiling_unique}
+use Rattle.affine_expr.specs.declared.expr.Expr.{Expr, fold-roll-Expr, ind-Expr, map-Expr, roll-Expr}
+use Rattle.affine_expr.specs.declared.expr.Expr.TheOpen.{Expr-F}
+use Rattle.affine_expr.specs.declared.linear.LinearFault.{LinearFault}
+use Rattle.affine_expr.specs.declared.linear.Join.{Join}
+use Rattle.affine_expr.specs.declared.linear.Join.TheVariants.{Sum, Difference}
+use Rattle.affine_expr.specs.Value.{floor_div, ceil_div, floor_mod, value}
+use Rattle.affine_expr.specs.Pure.{is_outside, has_leaves_below}
+use Rattle.affine_expr.specs.Guarded.{small}
+use Rattle.affine_expr.specs.Forms.{Form, LocalForm, LinearForm, dot, with_locals, linear_value, AreInOrder, IsShaped}
+use Rattle.affine_expr.specs.Linear.{joined, join_forms, scale_form, number_form, variable_form, floored_form, rest_form, raised, local_of, State, state, Part, part_of, formed, finished, linear_found, known_one, known_two, divisor, joined_by, scaled_by, product_by, floor_by, ceil_by, rest_by}
+use Rattle.affine_expr.proofs.Ranges.{Known}
+use Rattle.affine_expr.proofs.Divisions.{floor_is, ceil_is}
+use Rattle.affine_expr.proofs.FormValues.{Gives, then, worth, IsJoin, join_forms_gives, IsScale, scale_form_gives, IsRaised, raised_gives, dot-zeros, dot-last, number_worth, number_long, variable_worth, variable_long}
+use Rattle.affine_expr.proofs.Locals.{floor_at, with_locals-append, length-with_locals, kept, in_order-last}
+
+-- ---- the ceiling is the floor of what is raised
+ceil_raised : (v c : ℤ) → pos 0 <ℤ c → floor_div (v +ℤ (c -ℤ pos 1)) c ≡ ceil_div v c
+ceil_raised v c h =
+    let q = int_div_euclid (v +ℤ (c -ℤ pos 1)) c in
+    let low = floor_below (v +ℤ (c -ℤ pos 1)) c h in
+    let high = floor_above (v +ℤ (c -ℤ pos 1)) c h in
+    floor_is (v +ℤ (c -ℤ pos 1)) c h ∙ ceiling_unique v c q h (omega (arith, ints, low, high)) (omega (arith, ints, low, high)) ∙ sym (ceil_is v c h)
+
+-- ---- what is known
+small_known : (z : ℤ) → Known (small z) z
+unfolding small
+small_known z = by (is_outside z)
+  where
+    by : (b : Bool) → Known (cond b None (Some z)) z
+    by true = tt
+    by false = refl
+
+known_along : (o : Option ℤ) (u v : ℤ) → u ≡ v → Known o u → Known o v
+known_along o u v e h = subst (Known o) e h
+
+one_known : (f : ℤ → ℤ) (x : Option ℤ) (u : ℤ) → Known x u → Known (known_one f x) (f u)
+one_known f None u h = tt
+one_known f (Some a) u h = known_along (small (f a)) (f a) (f u) (ap f (sym h)) (small_known (f a))
+
+two_known : (f : ℤ → ℤ → ℤ) (x y : Option ℤ) (u v : ℤ) → Known x u → Known y v → Known (known_two f x y) (f u v)
+two_known f None y u v h k = tt
+two_known f (Some a) None u v h k = tt
+two_known f (Some a) (Some b) u v h k = known_along (small (f a b)) (f a b) (f u v) (ap (λ t. f t b) (sym h) ∙ ap (f u) (sym k)) (small_known (f a b))
+
+divisor_known : (x : Option ℤ) (u : ℤ) → Known x u → Known (divisor x) u
+divisor_known None u h = tt
+divisor_known (Some c) u h = by (int_lt (pos 0) c)
+  where
+    by : (b : Bool) → Known (cond b (Some c) None) u
+    by true = h
+    by false = tt
+
+-- a divisor is positive
+abbrev IsDivisor : Option ℤ → Type 0
+IsDivisor None = Unit {0}
+IsDivisor (Some c) = pos 0 <ℤ c
+
+divisor_is : (x : Option ℤ) → IsDivisor (divisor x)
+divisor_is None = tt
+divisor_is (Some c) = by (int_lt (pos 0) c) refl
+  where
+    by : (b : Bool) → int_lt (pos 0) c ≡ b → IsDivisor (cond b (Some c) None)
+    by true e = omega (arith, ints, e)
+    by false e = tt
+
+-- ---- what stands in front of the locals
+front : (xs ys : List ℤ) (n : ℕ) → n < length xs → get_or (xs ++ ys) n (pos 0) ≡ get_or xs n (pos 0)
+front [] ys n l = absurd (omega arith)
+front (x ∷ xs) ys zero l = refl
+front (x ∷ xs) ys (suc n) l = front xs ys n (omega arith)
+
+second : (xs ys : List ℤ) (n : ℕ) → get_or (xs ++ ys) (length xs + n) (pos 0) ≡ get_or ys n (pos 0)
+second [] ys n = let e : 0 + n ≡ n = omega arith in ap (λ k. get_or ys k (pos 0)) e
+second (x ∷ xs) ys n = let e : length (x ∷ xs) + n ≡ suc (length xs + n) = omega arith in ap (λ k. get_or (x ∷ (xs ++ ys)) k (pos 0)) e ∙ second xs ys n
+
+early : (p : List ℤ) (ms : List LocalForm) (i : ℕ) → i < length p → get_or (with_locals p ms) i (pos 0) ≡ get_or p i (pos 0)
+early p [] i l = refl
+early p (m ∷ ms) i l = early (p ++ floor_at m p ∷ []) ms i (omega (arith, length-append p (floor_at m p ∷ []))) ∙ front p (floor_at m p ∷ []) i l
+
+module _ (ds ss : List ℤ) where
+  abbrev env : List ℤ
+  env = ds ++ ss
+
+  abbrev width : ℕ
+  width = length ds + length ss
+
+  length-env : length env ≡ width
+  length-env = length-append ds ss
+
+  -- a form with its locals behind those so far is worth v
+  pub record Good (ls : List LocalForm) (v : ℤ) (st : State) : Type 0 where
+    pub more : List LocalForm
+    pub grown : st.locals ≡ ls ++ more
+    pub long : length st.form.coefs ≡ width + length st.locals
+    pub ordered : AreInOrder width st.locals
+    pub same : worth st.form (with_locals env st.locals) ≡ v
+
+  abbrev pub Means : Part → ℤ → Type 0
+  Means a v = (ls : List LocalForm) → AreInOrder width ls → Gives (a.form ls) (Good ls v)
+
+  number_good : (ls : List LocalForm) (z : ℤ) → AreInOrder width ls → Good ls z (state (number_form (width + length ls) z) ls)
+  number_good ls z o = record {
+    more = [];
+    grown = sym (append-nil ls);
+    long = number_long (width + length ls) z;
+    ordered = o;
+    same = number_worth (width + length ls) z (with_locals env ls);
+  }
+
+  variable_good : (ls : List LocalForm) (i : ℕ) → i < width → AreInOrder width ls → Good ls (get_or env i (pos 0)) (state (variable_form (width + length ls) i) ls)
+  variable_good ls i h o = record {
+    more = [];
+    grown = sym (append-nil ls);
+    long = variable_long (width + length ls) i;
+    ordered = o;
+    same = variable_worth (width + length ls) i (with_locals env ls) (omega arith) ∙ early env ls i (omega (arith, length-env));
+  }
+
+  -- ---- sums and multiples
+  join_means : (w : Join) (a b : Part) (u v : ℤ) → Means a u → Means b v → (ls : List LocalForm) → AreInOrder width ls → Gives (joined_by w a b ls) (Good ls (joined w u v))
+  join_means w a b u v h k ls o = then (a.form ls) _ (Good ls u) (Good ls (joined w u v)) (h ls o) (λ f gf.
+      then (b.form f.locals) _ (Good f.locals v) (Good ls (joined w u v)) (k f.locals gf.ordered) (λ g gg.
+      let shorter : length f.form.coefs ≤ length g.form.coefs = omega (arith, gf.long, gg.long, ap length gg.grown, length-append f.locals gg.more) in
+      then (join_forms w f.form g.form) _ (IsJoin w f.form g.form) (Good ls (joined w u v)) (join_forms_gives w f.form g.form shorter) (λ t j. record {
+        more = gf.more ++ gg.more;
+        grown = gg.grown ∙ ap (λ l. l ++ gg.more) gf.grown ∙ append_assoc ls gf.more gg.more;
+        long = j.long ∙ gg.long;
+        ordered = gg.ordered;
+        same = j.same (with_locals env g.locals)
+            ∙ ap (λ z. joined w z (worth g.form (with_locals env g.locals))) (kept env f.form f.locals g.locals gg.more gg.grown (omega (arith, gf.long, length-env)) ∙ gf.same)
+            ∙ ap (joined w u) gg.same;
+      })))
+
+  scale_means : (k : ℤ) (a : Part) (u : ℤ) → Means a u → (ls : List LocalForm) → AreInOrder width ls → Gives (scaled_by k a ls) (Good ls (k *ℤ u))
+  scale_means k a u h ls o = then (a.form ls) _ (Good ls u) (Good ls (k *ℤ u)) (h ls o) (λ f gf.
+      then (scale_form k f.form) _ (IsScale k f.form) (Good ls (k *ℤ u)) (scale_form_gives k f.form) (λ t j. record {
+        more = gf.more;
+        grown = gf.grown;
+        long = j.long ∙ gf.long;
+        ordered = gf.ordered;
+        same = j.same (with_locals env f.locals) ∙ ap (λ z. k *ℤ z) gf.same;
+      }))
+
+  good_along : (r : Result State LinearFault) (ls : List LocalForm) (u v : ℤ) → u ≡ v → Gives r (Good ls u) → Gives r (Good ls v)
+  good_along r ls u v e h = subst (λ z. Gives r (Good ls z)) e h
+
+  product_means : (a b : Part) (u v : ℤ) → Means a u → Means b v → (x y : Option ℤ) → Known x u → Known y v → (ls : List LocalForm) → AreInOrder width ls → Gives (product_by a b x y ls) (Good ls (u *ℤ v))
+  product_means a b u v h k x (Some c) m n ls o = good_along (scaled_by c a ls) ls (c *ℤ u) (u *ℤ v) (*ℤ_comm c u ∙ ap (λ t. u *ℤ t) (sym n)) (scale_means c a u h ls o)
+  product_means a b u v h k (Some c) None m n ls o = good_along (scaled_by c b ls) ls (c *ℤ v) (u *ℤ v) (ap (λ t. t *ℤ v) (sym m)) (scale_means c b v k ls o)
+  product_means a b u v h k None None m n ls o = tt
+
+  -- ---- divisions
+  floored_good : (f : Form) (c u : ℤ) (ls ms more : List LocalForm) → ms ≡ ls ++ more → length f.coefs ≡ width + length ms → AreInOrder width ms → worth f (with_locals env ms) ≡ u → pos 0 <ℤ c → Good ls (floor_div u c) (floored_form f c ms)
+  unfolding floored_form
+  floored_good f c u ls ms more g l o s p =
+      let point = with_locals env ms in
+      let long : length f.coefs ≡ length point = omega (arith, l, length-with_locals env ms, length-env) in
+      let here : with_locals env (ms ++ local_of f c ∷ []) ≡ point ++ floor_div (worth f point) c ∷ [] = with_locals-append env ms (local_of f c ∷ []) in
+      record {
+        more = more ++ local_of f c ∷ [];
+        grown = ap (λ x. x ++ local_of f c ∷ []) g ∙ append_assoc ls more (local_of f c ∷ []);
+        long = omega (arith, l, length-append (replicate (length f.coefs) (pos 0)) (pos 1 ∷ []), length-replicate (length f.coefs) (pos 0), length-append ms (local_of f c ∷ []));
+        ordered = in_order-last width ms (local_of f c) o l p;
+        same = ap (λ q. dot (replicate (length f.coefs) (pos 0) ++ pos 1 ∷ []) q +ℤ pos 0) here
+            ∙ ap (λ z. z +ℤ pos 0) (dot-last (replicate (length f.coefs) (pos 0)) point (pos 1) (floor_div (worth f point) c) (length-replicate (length f.coefs) (pos 0) ∙ long))
+            ∙ ap (λ z. (z +ℤ pos 1 *ℤ floor_div (worth f point) c) +ℤ pos 0) (dot-zeros (length f.coefs) point)
+            ∙ ring ((Var (pos 0) ⊕ Var (pos 1) ⊗ Var (floor_div (worth f point) c)) ⊕ Var (pos 0)) (Var (floor_div (worth f point) c)) (omega arith)
+            ∙ ap (λ z. floor_div z c) s;
+      }
+
+  rest_good : (f : Form) (c u : ℤ) (ls ms more : List LocalForm) → ms ≡ ls ++ more → length f.coefs ≡ width + length ms → AreInOrder width ms → worth f (with_locals env ms) ≡ u → pos 0 <ℤ c → Good ls (floor_mod u c) (rest_form f c ms)
+  unfolding rest_form floor_mod
+  rest_good f c u ls ms more g l o s p =
+      let point = with_locals env ms in
+      let long : length f.coefs ≡ length point = omega (arith, l, length-with_locals env ms, length-env) in
+      let here : with_locals env (ms ++ local_of f c ∷ []) ≡ point ++ floor_div (worth f point) c ∷ [] = with_locals-append env ms (local_of f c ∷ []) in
+      record {
+        more = more ++ local_of f c ∷ [];
+        grown = ap (λ x. x ++ local_of f c ∷ []) g ∙ append_assoc ls more (local_of f c ∷ []);
+        long = omega (arith, l, length-append f.coefs (neg_ℤ c ∷ []), length-append ms (local_of f c ∷ []));
+        ordered = in_order-last width ms (local_of f c) o l p;
+        same = ap (λ q. dot (f.coefs ++ neg_ℤ c ∷ []) q +ℤ f.constant) here
+            ∙ ap (λ z. z +ℤ f.constant) (dot-last f.coefs point (neg_ℤ c) (floor_div (worth f point) c) long)
+            ∙ less (dot f.coefs point) f.constant (neg_ℤ c *ℤ floor_div (worth f point) c) (c *ℤ floor_div (worth f point) c) (ring (Neg (Var c) ⊗ Var (floor_div (worth f point) c)) (Neg (Var c ⊗ Var (floor_div (worth f point) c))) (omega arith))
+            ∙ ap (λ z. z -ℤ c *ℤ floor_div z c) s;
+      }
+    where
+      less : (d k m n : ℤ) → m ≡ neg_ℤ n → (d +ℤ m) +ℤ k ≡ (d +ℤ k) -ℤ n
+      less d k m n e = omega (arith, ints, e)
+
+  floor_means : (a : Part) (u v : ℤ) → Means a u → (y : Option ℤ) → Known y v → IsDivisor y → (ls : List LocalForm) → AreInOrder width ls → Gives (floor_by a y ls) (Good ls (floor_div u v))
+  floor_means a u v h None n p ls o = tt
+  floor_means a u v h (Some c) n p ls o = then (a.form ls) _ (Good ls u) (Good ls (floor_div u v)) (h ls o) (λ f gf.
+      subst (λ t. Good ls (floor_div u t) (floored_form f.form c f.locals)) (sym n) (floored_good f.form c u ls f.locals gf.more gf.grown gf.long gf.ordered gf.same p))
+
+  ceil_means : (a : Part) (u v : ℤ) → Means a u → (y : Option ℤ) → Known y v → IsDivisor y → (ls : List LocalForm) → AreInOrder width ls → Gives (ceil_by a y ls) (Good ls (ceil_div u v))
+  ceil_means a u v h None n p ls o = tt
+  ceil_means a u v h (Some c) n p ls o = then (a.form ls) _ (Good ls u) (Good ls (ceil_div u v)) (h ls o) (λ f gf.
+      then (raised f.form c) _ (IsRaised c f.form) (Good ls (ceil_div u v)) (raised_gives f.form c) (λ t j.
+      subst (λ z. Good ls z (floored_form t c f.locals)) (ceil_raised u c p ∙ ap (ceil_div u) (sym n))
+      (floored_good t c (u +ℤ (c -ℤ pos 1)) ls f.locals gf.more gf.grown (j.long ∙ gf.long) gf.ordered (j.same (with_locals env f.locals) ∙ ap (λ z. z +ℤ (c -ℤ pos 1)) gf.same) p)))
+
+  rest_means : (a : Part) (u v : ℤ) → Means a u → (y : Option ℤ) → Known y v → IsDivisor y → (ls : List LocalForm) → AreInOrder width ls → Gives (rest_by a y ls) (Good ls (floor_mod u v))
+  rest_means a u v h None n p ls o = tt
+  rest_means a u v h (Some c) n p ls o = then (a.form ls) _ (Good ls u) (Good ls (floor_mod u v)) (h ls o) (λ f gf.
+      subst (λ t. Good ls (floor_mod u t) (rest_form f.form c f.locals)) (sym n) (rest_good f.form c u ls f.locals gf.more gf.grown gf.long gf.ordered gf.same p))
+
+  -- ---- an expression
+  pub record IsMeant (a : Part) (v : ℤ) : Type 0 where
+    pub known : Known a.known v
+    pub means : Means a v
+
+  abbrev part : Expr → Part
+  part = part_of (length ds) (length ss)
+
+  abbrev pub Meant : Expr → Type 0
+  Meant e = has_leaves_below (length ds) (length ss) e ≡ true → IsMeant (part e) (value ds ss e)
+
+  minus_one : (u : ℤ) → neg_ℤ (pos 1) *ℤ u ≡ neg_ℤ u
+  minus_one u = ring (Neg (Var (pos 1)) ⊗ Var u) (Neg (Var u)) (omega arith)
+
+  one_layer : (y : Expr-F ((e : Expr) × Meant e)) → Meant (roll-Expr (map-Expr ((e : Expr) × Meant e) Expr (λ e. e.0) y))
+  unfolding has_leaves_below value
+  one_layer (Expr-F.Dim n) = simp fold-roll-Expr (λ l.
+      let h = ltb-true n (length ds) l in
+      record { known = tt; means = λ ls o. subst (λ z. Good ls z (state (variable_form (width + length ls) n) ls)) (front ds ss n h) (variable_good ls n (omega (arith, h)) o) })
+  one_layer (Expr-F.Sym n) = simp fold-roll-Expr (λ l.
+      let h = ltb-true n (length ss) l in
+      record { known = tt; means = λ ls o. subst (λ z. Good ls z (state (variable_form (width + length ls) (length ds + n)) ls)) (second ds ss n) (variable_good ls (length ds + n) (omega (arith, h)) o) })
+  one_layer (Expr-F.Const z) = simp fold-roll-Expr (λ l. record { known = small_known z; means = λ ls o. number_good ls z o })
+  one_layer (Expr-F.Neg a) = simp fold-roll-Expr (λ l.
+      let h = a.1 l in
+      record { known = one_known neg_ℤ _ _ h.known; means = λ ls o. good_along _ ls _ _ (minus_one _) (scale_means (neg_ℤ (pos 1)) (part a.0) _ h.means ls o) })
+  one_layer (Expr-F.Add a b) = simp fold-roll-Expr (λ l.
+      let m = and_parts _ _ l in
+      let h = a.1 m.0 in
+      let k = b.1 m.1 in
+      record { known = two_known (λ x y. x +ℤ y) _ _ _ _ h.known k.known; means = join_means Sum (part a.0) (part b.0) _ _ h.means k.means })
+  one_layer (Expr-F.Sub a b) = simp fold-roll-Expr (λ l.
+      let m = and_parts _ _ l in
+      let h = a.1 m.0 in
+      let k = b.1 m.1 in
+      record { known = two_known (λ x y. x -ℤ y) _ _ _ _ h.known k.known; means = join_means Difference (part a.0) (part b.0) _ _ h.means k.means })
+  one_layer (Expr-F.Mul a b) = simp fold-roll-Expr (λ l.
+      let m = and_parts _ _ l in
+      let h = a.1 m.0 in
+      let k = b.1 m.1 in
+      record { known = two_known (λ x y. x *ℤ y) _ _ _ _ h.known k.known; means = product_means (part a.0) (part b.0) _ _ h.means k.means _ _ h.known k.known })
+  one_layer (Expr-F.FloorDiv a b) = simp fold-roll-Expr (λ l.
+      let m = and_parts _ _ l in
+      let h = a.1 m.0 in
+      let k = b.1 m.1 in
+      record { known = two_known floor_div _ _ _ _ h.known (divisor_known _ _ k.known); means = floor_means (part a.0) _ _ h.means _ (divisor_known _ _ k.known) (divisor_is (part b.0).known) })
+  one_layer (Expr-F.CeilDiv a b) = simp fold-roll-Expr (λ l.
+      let m = and_parts _ _ l in
+      let h = a.1 m.0 in
+      let k = b.1 m.1 in
+      record { known = two_known ceil_div _ _ _ _ h.known (divisor_known _ _ k.known); means = ceil_means (part a.0) _ _ h.means _ (divisor_known _ _ k.known) (divisor_is (part b.0).known) })
+  one_layer (Expr-F.Mod a b) = simp fold-roll-Expr (λ l.
+      let m = and_parts _ _ l in
+      let h = a.1 m.0 in
+      let k = b.1 m.1 in
+      record { known = two_known floor_mod _ _ _ _ h.known (divisor_known _ _ k.known); means = rest_means (part a.0) _ _ h.means _ (divisor_known _ _ k.known) (divisor_is (part b.0).known) })
+
+  meant : (e : Expr) → Meant e
+  meant = ind-Expr Meant (λ x y is. subst (λ z. Meant (roll-Expr z)) is (one_layer y))
+
+  -- the form is over the dimensions, the symbols and its locals, and has the value of the expression
+  pub record IsLinear (e : Expr) (f : LinearForm) : Type 0 where
+    pub shaped : IsShaped width f
+    pub same : linear_value f env ≡ value ds ss e
+
+  linear_by : (e : Expr) (r : Result State LinearFault) → Gives r (Good [] (value ds ss e)) → Gives (finished r) (IsLinear e)
+  linear_by e (Ok st) h = record { shaped = record { coefs = h.long; locals = h.ordered }; same = h.same }
+  linear_by e (Err x) h = tt
+
+  pub linear_gives : (e : Expr) → has_leaves_below (length ds) (length ss) e ≡ true → Gives (linear_found (length ds) (length ss) e) (IsLinear e)
+  unfolding linear_found
+  linear_gives e l = linear_by e (formed (length ds) (length ss) e []) ((meant e l).means [] tt)
+
+-- ---- of a form that is answered
+answered : (dims syms : ℕ) (e : Expr) (f : LinearForm) → has_leaves_below dims syms e ≡ true → linear_found dims syms e ≡ Ok f
+    → (ds ss : List ℤ) → length ds ≡ dims → length ss ≡ syms → IsLinear ds ss e f
+answered dims syms e f l h ds ss d s =
+    let m : has_leaves_below (length ds) (length ss) e ≡ true = ap (λ n. has_leaves_below n (length ss) e) d ∙ ap (λ n. has_leaves_below dims n e) s ∙ l in
+    let k : linear_found (length ds) (length ss) e ≡ Ok f = ap (λ n. linear_found n (length ss) e) d ∙ ap (λ n. linear_found dims n e) s ∙ h in
+    subst (λ r. Gives r (IsLinear ds ss e)) k (linear_gives ds ss e m)
+
+pub linear_means : (dims syms : ℕ) (e : Expr) (f : LinearForm) → has_leaves_below dims syms e ≡ true → linear_found dims syms e ≡ Ok f
+    → (ds ss : List ℤ) → length ds ≡ dims → length ss ≡ syms → linear_value f (ds ++ ss) ≡ value ds ss e
+linear_means dims syms e f l h ds ss d s = (answered dims syms e f l h ds ss d s).same
+
+pub linear_shaped : (dims syms : ℕ) (e : Expr) (f : LinearForm) → has_leaves_below dims syms e ≡ true → linear_found dims syms e ≡ Ok f → IsShaped (dims + syms) f
+linear_shaped dims syms e f l h =
+    let d = length-replicate dims (pos 0) in
+    let s = length-replicate syms (pos 0) in
+    subst (λ n. IsShaped n f) (ap (λ n. n + length (replicate syms (pos 0))) d ∙ ap (λ n. dims + n) s) (answered dims syms e f l h (replicate dims (pos 0)) (replicate syms (pos 0)) d s).shaped

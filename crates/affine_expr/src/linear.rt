@@ -1,0 +1,393 @@
+// The linear form of an expression.
+ghost use Rattle.std.specs.Prelude.{◌≡◌, ◌+◌, ◌-ℤ◌, ◌<◌, pos, length, slice_index_or, ◌++◌, IfOk, true, List, ℤ};
+ghost use Rattle.num_row.specs.Ints.{narrowed};
+ghost use Rattle.affine_expr.specs.Forms.{Form, IsShaped, linear_value};
+ghost use Rattle.affine_expr.specs.Value.{value};
+ghost use Rattle.affine_expr.specs.Pure.{is_pure, has_leaves_below, has_small_numbers};
+ghost use Rattle.affine_expr.specs.Linear.{Meets, GivesForm, joined, join_coefs, join_forms, scale_coefs, scale_form, number_form, variable_form, raised, floored_form, rest_form, divisor, part_of, formed, linear_found, linear_of};
+
+use crate::Expr;
+use crate::interval::minus;
+use crate::known::positive;
+use num_row::{exact_add, exact_mul};
+use std::alloc::{AllocError, AllocFailed, Global};
+use std::marker::Model;
+use thiserror::Error;
+
+/// Why an expression has no linear form.
+#[derive(Clone, Copy, Debug, Error)]
+pub enum LinearFault {
+    /// A coefficient or constant on the way isn't in 128 bits.
+    #[error("a coefficient leaves 128 bits")]
+    Wide,
+    #[error("out of memory")]
+    Memory,
+}
+
+impl From<AllocError> for LinearFault {
+    ghost use Rattle.affine_expr.specs.declared.linear.LinearFault.{LinearFault};
+
+    ghost from_gives = { λ _ r. r ≡ LinearFault.Memory };
+
+    fn from(_error: AllocError) -> LinearFault {
+        LinearFault::Memory
+    }
+}
+
+impl<T: Drop> From<AllocFailed<T>> for LinearFault {
+    ghost use Rattle.affine_expr.specs.declared.linear.LinearFault.{LinearFault};
+
+    ghost from_gives = { λ _ r. r ≡ LinearFault.Memory };
+
+    fn from(_error: AllocFailed<T>) -> LinearFault {
+        LinearFault::Memory
+    }
+}
+
+/// The floor over a positive divisor of a form that has a coefficient for each dimension, each symbol and each local
+/// before this one, in that order.
+#[derive(Drop)]
+pub struct Local {
+    pub coefs: Vec<i128>,
+    pub constant: i128,
+    pub divisor: i64,
+}
+
+impl Model for Local {
+    ghost use Rattle.affine_expr.specs.Forms.{LocalForm};
+
+    ghost Value = { LocalForm };
+
+    ghost view = { λ l. record { coefs = l.coefs.items; constant = l.constant; divisor = l.divisor } };
+}
+
+/// A form with a coefficient for each dimension, each symbol and then each local.
+#[derive(Drop)]
+pub struct Linear {
+    pub coefs: Vec<i128>,
+    pub constant: i128,
+    pub locals: Vec<Local>,
+}
+
+impl Model for Linear {
+    ghost use Rattle.affine_expr.specs.Forms.{LinearForm};
+
+    ghost Value = { LinearForm };
+
+    ghost view = { λ f. record { coefs = f.coefs.items; constant = f.constant; locals = f.locals.items } };
+}
+
+/// A form over the dimensions, the symbols and the locals so far.
+#[derive(Drop)]
+struct Combination {
+    coefs: Vec<i128>,
+    constant: i128,
+}
+
+impl Model for Combination {
+    ghost use Rattle.affine_expr.specs.Forms.{Form};
+
+    ghost Value = { Form };
+
+    ghost view = { λ f. record { coefs = f.coefs.items; constant = f.constant } };
+}
+
+/// The two ways to join forms.
+#[derive(Clone, Copy)]
+enum Join {
+    Sum,
+    Difference,
+}
+
+fn exact_sub(left: i128, right: i128) -> Option<i128>
+    ensures { result ≡ narrowed (left -ℤ right) }
+{
+    left.checked_sub(right)
+}
+
+fn joined(way: Join, left: i128, right: i128) -> Option<i128>
+    ensures { result ≡ narrowed (joined way left right) }
+{
+    match way {
+        Join::Sum => exact_add(left, right),
+        Join::Difference => exact_sub(left, right),
+    }
+}
+
+fn coef(coefs: &[i128], place: usize) -> i128
+    ensures { result ≡ slice_index_or coefs.now place (pos 0) }
+{
+    if place < coefs.len() { coefs[place] } else { 0 }
+}
+
+#[tactic(auto, using(crate::proofs::Joins::turn, crate::proofs::Joins::stop, crate::proofs::Joins::ended))]
+fn join_coefs(alloc: Global, way: Join, xs: &[i128], ys: &[i128]) -> Result<Vec<i128>, LinearFault>
+    ensures { Meets (join_coefs way xs.now ys.now) (λ v. v.items) result }
+{
+    let mut coefs = Vec::new(alloc);
+    for (place, y) in ys.iter().enumerate() {
+        let Some(number) = joined(way, coef(xs, place), *y) else {
+            return Err(LinearFault::Wide);
+        };
+        coefs.push(number)?;
+    }
+    Ok(coefs)
+}
+
+#[tactic(auto, using(crate::proofs::Scales::turn, crate::proofs::Scales::stop, crate::proofs::Scales::ended))]
+fn scale_coefs(alloc: Global, factor: i128, xs: &[i128]) -> Result<Vec<i128>, LinearFault>
+    ensures { Meets (scale_coefs factor xs.now) (λ v. v.items) result }
+{
+    let mut coefs = Vec::new(alloc);
+    for x in xs {
+        let Some(number) = exact_mul(factor, *x) else {
+            return Err(LinearFault::Wide);
+        };
+        coefs.push(number)?;
+    }
+    Ok(coefs)
+}
+
+#[tactic(auto, unfolding(crate::specs::Linear::join_forms))]
+fn join_forms(
+    alloc: Global,
+    way: Join,
+    f: &Combination,
+    g: &Combination,
+) -> Result<Combination, LinearFault>
+    ensures { Meets (join_forms way f.now g.now) (λ h. h) result }
+{
+    let coefs = join_coefs(alloc, way, &f.coefs, &g.coefs)?;
+    let Some(constant) = joined(way, f.constant, g.constant) else {
+        return Err(LinearFault::Wide);
+    };
+    Ok(Combination { coefs, constant })
+}
+
+#[tactic(auto, unfolding(crate::specs::Linear::scale_form))]
+fn scale_form(alloc: Global, factor: i128, f: &Combination) -> Result<Combination, LinearFault>
+    ensures { Meets (scale_form factor f.now) (λ h. h) result }
+{
+    let coefs = scale_coefs(alloc, factor, &f.coefs)?;
+    let Some(constant) = exact_mul(factor, f.constant) else {
+        return Err(LinearFault::Wide);
+    };
+    Ok(Combination { coefs, constant })
+}
+
+/// The variables before the locals: so many dimensions, and then so many symbols.
+#[derive(Clone, Copy)]
+struct Space {
+    dims: u32,
+    syms: u32,
+}
+
+impl Space {
+    fn width(self, locals: &[Local]) -> usize
+        ensures { result ≡ self.dims + self.syms + length locals.now }
+    {
+        self.dims as usize + self.syms as usize + locals.len()
+    }
+
+    fn factor(self, part: &Expr) -> Option<i64>
+        ensures { result ≡ (part_of self.dims self.syms part.now).known }
+    {
+        part.known()
+    }
+
+    fn divisor(self, part: &Expr) -> Option<i64>
+        ensures { result ≡ divisor (part_of self.dims self.syms part.now).known }
+    {
+        positive(self.factor(part))
+    }
+}
+
+#[tactic(auto, unfolding(crate::specs::Linear::number_form))]
+fn number_form(alloc: Global, width: usize, constant: i128) -> Result<Combination, LinearFault>
+    ensures { Meets {A = Form} (Ok (number_form width constant)) (λ f. f) result }
+{
+    let coefs = vec![in alloc; 0; width]?;
+    Ok(Combination { coefs, constant })
+}
+
+#[tactic(auto, unfolding(crate::specs::Linear::variable_form), using(crate::proofs::Units::past))]
+fn variable_form(alloc: Global, width: usize, place: usize) -> Result<Combination, LinearFault>
+    ensures { Meets {A = Form} (Ok (variable_form width place)) (λ f. f) result }
+{
+    let mut coefs: Vec<i128> = vec![in alloc; 0; width]?;
+    if place < width {
+        coefs[place] = 1;
+    }
+    Ok(Combination { coefs, constant: 0 })
+}
+
+#[tactic(auto, unfolding(crate::specs::Linear::raised))]
+fn raised(f: Combination, divisor: i64) -> Result<Combination, LinearFault>
+    ensures { Meets (raised f divisor) (λ h. h) result }
+{
+    let Combination { coefs, constant } = f;
+    let Some(constant) = exact_add(constant, divisor as i128 - 1) else {
+        return Err(LinearFault::Wide);
+    };
+    Ok(Combination { coefs, constant })
+}
+
+#[tactic(auto, unfolding(crate::specs::Linear::floored_form))]
+fn push_floor(
+    alloc: Global,
+    f: Combination,
+    divisor: i64,
+    locals: &mut Vec<Local>,
+) -> Result<Combination, LinearFault>
+    ensures { GivesForm (Ok (floored_form f divisor locals.old.items)) locals.new.items result }
+{
+    let Combination { coefs, constant } = f;
+    let mut unit: Vec<i128> = vec![in alloc; 0; coefs.len()]?;
+    unit.push(1)?;
+    locals.push(Local {
+        coefs,
+        constant,
+        divisor,
+    })?;
+    Ok(Combination {
+        coefs: unit,
+        constant: 0,
+    })
+}
+
+#[tactic(auto, unfolding(crate::specs::Linear::rest_form))]
+fn push_rest(
+    f: Combination,
+    divisor: i64,
+    locals: &mut Vec<Local>,
+) -> Result<Combination, LinearFault>
+    ensures { GivesForm (Ok (rest_form f divisor locals.old.items)) locals.new.items result }
+{
+    let Combination { coefs, constant } = f;
+    let mut rest = coefs.clone()?;
+    rest.push(minus(divisor))?;
+    locals.push(Local {
+        coefs,
+        constant,
+        divisor,
+    })?;
+    Ok(Combination {
+        coefs: rest,
+        constant,
+    })
+}
+
+impl Expr {
+    fn formed(
+        &self,
+        alloc: Global,
+        space: Space,
+        locals: &mut Vec<Local>,
+    ) -> Result<Combination, LinearFault>
+        ensures { GivesForm (formed space.dims space.syms self.now locals.old.items) locals.new.items result }
+    {
+        match self {
+            Expr::Dim(number) => variable_form(alloc, space.width(locals), *number as usize),
+            Expr::Sym(number) => variable_form(
+                alloc,
+                space.width(locals),
+                space.dims as usize + *number as usize,
+            ),
+            Expr::Const(value) => number_form(alloc, space.width(locals), *value as i128),
+            Expr::Neg(part) => scale_form(alloc, -1, &part.get().formed(alloc, space, locals)?),
+            Expr::Add(left, right) => {
+                let left = left.get().formed(alloc, space, locals)?;
+                join_forms(
+                    alloc,
+                    Join::Sum,
+                    &left,
+                    &right.get().formed(alloc, space, locals)?,
+                )
+            }
+            Expr::Sub(left, right) => {
+                let left = left.get().formed(alloc, space, locals)?;
+                join_forms(
+                    alloc,
+                    Join::Difference,
+                    &left,
+                    &right.get().formed(alloc, space, locals)?,
+                )
+            }
+            Expr::Mul(left, right) => match (space.factor(left.get()), space.factor(right.get())) {
+                (_, Some(factor)) => scale_form(
+                    alloc,
+                    factor as i128,
+                    &left.get().formed(alloc, space, locals)?,
+                ),
+                (Some(factor), None) => scale_form(
+                    alloc,
+                    factor as i128,
+                    &right.get().formed(alloc, space, locals)?,
+                ),
+                (None, None) => Err(LinearFault::Wide),
+            },
+            Expr::FloorDiv(left, right) => match space.divisor(right.get()) {
+                Some(divisor) => push_floor(
+                    alloc,
+                    left.get().formed(alloc, space, locals)?,
+                    divisor,
+                    locals,
+                ),
+                None => Err(LinearFault::Wide),
+            },
+            Expr::CeilDiv(left, right) => match space.divisor(right.get()) {
+                Some(divisor) => {
+                    let left = raised(left.get().formed(alloc, space, locals)?, divisor)?;
+                    push_floor(alloc, left, divisor, locals)
+                }
+                None => Err(LinearFault::Wide),
+            },
+            Expr::Mod(left, right) => match space.divisor(right.get()) {
+                Some(divisor) => push_rest(
+                    left.get().formed(alloc, space, locals)?,
+                    divisor,
+                    locals,
+                ),
+                None => Err(LinearFault::Wide),
+            },
+        }
+    }
+
+    #[tactic(auto, unfolding(crate::specs::Linear::linear_found))]
+    fn linear_found(&self, alloc: Global, dims: u32, syms: u32) -> Result<Linear, LinearFault>
+        requires leaves { has_leaves_below dims syms self.now ≡ true }
+        ensures exact { Meets (linear_found dims syms self.now) (λ f. f) result }
+        ensures shaped { IfOk result (λ f. IsShaped (dims + syms) f) }
+        ensures means { IfOk result (λ f. (ds ss : List ℤ) → length ds ≡ dims → length ss ≡ syms → linear_value f (ds ++ ss) ≡ value ds ss self.now) }
+    {
+        let mut locals = Vec::new(alloc);
+        let Combination { coefs, constant } = self.formed(
+            alloc,
+            Space { dims, syms },
+            &mut locals,
+        )?;
+        Ok(Linear {
+            coefs,
+            constant,
+            locals,
+        })
+    }
+
+    /// The linear form of the expression over so many dimensions and symbols.
+    ///
+    /// `floordiv` by c of a form f is a local, the floor of f over c; `ceildiv` is the `floordiv` of f + c - 1, and `mod`
+    /// is f - c * q, where the local q is the `floordiv`. Each division gives one local, in the order of the text, and a
+    /// side that has no dimension and no symbol counts by its value and gives none: the right one of a product where
+    /// both are such. A refusal as `Wide` comes exactly where a coefficient or constant that is formed on the way, from
+    /// the leaves upward, isn't in 128 bits.
+    pub fn linear(&self, alloc: Global, dims: u32, syms: u32) -> Result<Linear, LinearFault>
+        requires pure { is_pure self.now ≡ true }
+        requires leaves { has_leaves_below dims syms self.now ≡ true }
+        requires small { has_small_numbers self.now ≡ true }
+        ensures exact { Meets (linear_of dims syms self.now) (λ f. f) result }
+        ensures shaped { IfOk result (λ f. IsShaped (dims + syms) f) }
+        ensures means { IfOk result (λ f. (ds ss : List ℤ) → length ds ≡ dims → length ss ≡ syms → linear_value f (ds ++ ss) ≡ value ds ss self.now) }
+    {
+        self.linear_found(alloc, dims, syms)
+    }
+}

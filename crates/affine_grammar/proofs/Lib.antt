@@ -1,0 +1,9 @@
+pub mod Tokens
+pub mod Expressions
+pub mod Maps
+pub mod Statements
+pub mod File
+pub mod Whole
+pub mod Steps
+pub mod Names
+pub mod Examples
