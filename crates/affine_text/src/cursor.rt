@@ -1,176 +1,334 @@
-// A cursor over the tokens of a text.
-ghost use Rattle.std.specs.Prelude.{◌≡◌, ◌≤◌, length, IfOk};
+// A cursor over the tokens of a text, and the readers of a single token.
+ghost use Rattle.std.specs.Prelude.{◌≡◌, ◌≤◌, neg_ℤ, pos, drop};
+ghost use Rattle.readers.specs.Readers.{head, take_by};
+ghost use Rattle.readers.specs.Limits.{limited};
+ghost use Rattle.affine_grammar.specs.Token as tok;
+ghost use Rattle.affine_lex.specs.Tokens as lex;
+ghost use Rattle.affine_text.specs.Input.{Takes};
 
-use crate::function::ParseFault;
-use affine_ast::{Name, Text};
+use crate::names::{named, text_of};
+use crate::refusal::Refusal;
+use crate::words::{action_of, definition_of, element_of, int_type_of, product_word, scalar_of};
+use affine_ast::{Element, Name, Scalar, Text};
+use affine_expr::Rel;
+use affine_grammar::{Action, Definition, Operator};
 use affine_lex::{Kind, Token};
 use std::alloc::Global;
 use std::marker::Model;
 
-/// The tokens that are left of a text. The last one is its end, and is never passed.
+/// The tokens that are left of a text, without its end.
 #[derive(Drop)]
-pub struct Cursor<'a> {
-    source: &'a [u8],
-    rest: &'a [Token],
+pub(crate) struct Tokens<'a> {
+    pub(crate) source: &'a [u8],
+    pub(crate) rest: &'a [Token],
 }
 
-impl<'a> Model for Cursor<'a> {
+impl<'a> Model for Tokens<'a> {
     ghost use Rattle.std.specs.Prelude.{List};
-    ghost use Rattle.affine_lex.specs.declared.token.Token.{Token};
+    ghost use Rattle.affine_grammar.specs.Spelling.{tokens_of};
+    ghost use Rattle.affine_grammar.specs.Token.{Tok};
 
-    ghost Value = { List Token };
+    ghost Value = { List Tok };
 
-    ghost view = { λ c. c.rest.now };
+    ghost view = { λ t. tokens_of t.source.now t.rest.now };
 }
 
-impl<'a> Cursor<'a> {
-    pub fn new(source: &'a [u8], tokens: &'a [Token]) -> Cursor<'a>
-        ensures { result ≡ tokens.now }
-    {
-        Cursor {
-            source,
-            rest: tokens,
-        }
-    }
+/// The bytes of a token.
+pub(crate) fn bytes_of(source: &[u8], token: Token) -> &[u8]
+    ensures { result.now ≡ lex.text_of source.now token }
+{
+    let from = token.from.min(source.len());
+    let rest = &source[from..];
+    let length = token.to.saturating_sub(token.from).min(rest.len());
+    &rest[..length]
+}
 
-    /// How many tokens are left.
-    pub fn left(&self) -> usize
-        ensures { result ≡ length self.now }
-    {
-        self.rest.len()
+/// The bytes behind the first one.
+pub(crate) fn behind_first(bytes: &[u8]) -> &[u8]
+    ensures { result.now ≡ drop 1 bytes.now }
+{
+    match bytes {
+        [_, rest @ ..] => rest,
+        [] => bytes,
     }
+}
 
-    /// The next token, or an end where none is left.
-    pub fn peek(&self) -> Token {
+pub(crate) fn negated(n: u64) -> i64
+    requires { n ≤ 9223372036854775808 }
+    ensures { result ≡ neg_ℤ (pos n) }
+{
+    (-(n as i128)) as i64
+}
+
+impl<'a> Tokens<'a> {
+    pub(crate) fn next_is(&self, mark: u8) -> bool
+        ensures { result ≡ tok.at_sign mark (head self.now) }
+    {
         match self.rest {
-            [first, ..] => *first,
-            [] => Token {
-                kind: Kind::End,
-                from: 0,
-                to: 0,
-                line: 1,
-                column: 1,
+            [first, ..] => match first.kind {
+                Kind::Punct(b) => b == mark,
+                _ => false,
             },
+            [] => false,
         }
     }
 
-    /// Passes the next token.
-    pub fn advance(&mut self) {
-        if let [_, rest @ ..] = self.rest {
-            self.rest = rest;
-        }
-    }
-
-    /// The refusal of the next token.
-    pub fn refusal(&self) -> ParseFault {
-        let token = self.peek();
-        ParseFault::Text {
-            line: token.line,
-            column: token.column,
-        }
-    }
-
-    /// The bytes of the next token.
-    pub fn text(&self) -> &'a [u8] {
-        let token = self.peek();
-        if token.from <= token.to && token.to <= self.source.len() {
-            &self.source[token.from..token.to]
-        } else {
-            &[]
-        }
-    }
-
-    pub fn line(&self) -> u32 {
-        self.peek().line
-    }
-
-    pub fn next_is_punct(&self, mark: u8) -> bool {
-        match self.peek().kind {
-            Kind::Punct(byte) => byte == mark,
-            _ => false,
-        }
-    }
-
-    pub fn next_is_word(&self, word: &[u8]) -> bool {
-        match self.peek().kind {
-            Kind::Word => self.text() == word,
-            _ => false,
-        }
-    }
-
-    /// Passes this punctuation mark.
-    pub fn punct(&mut self, mark: u8) -> Result<(), ParseFault> {
-        if !self.next_is_punct(mark) {
-            return Err(self.refusal());
-        }
-        self.advance();
-        Ok(())
-    }
-
-    /// Passes this keyword.
-    pub fn word(&mut self, word: &[u8]) -> Result<(), ParseFault> {
-        if !self.next_is_word(word) {
-            return Err(self.refusal());
-        }
-        self.advance();
-        Ok(())
-    }
-
-    /// The bytes behind the first one of the next token, as a text.
-    fn id(&self, alloc: Global) -> Result<Text, ParseFault> {
-        let bytes = self.text();
-        let bytes = if bytes.len() > 1 { &bytes[1..] } else { bytes };
-        match std::str::from_utf8(bytes) {
-            Ok(id) => Ok(Text::from_string(String::from_str(alloc, id)?)),
-            Err(_) => Err(self.refusal()),
-        }
-    }
-
-    /// The name of a value.
-    pub fn value(&mut self, alloc: Global) -> Result<Name, ParseFault> {
-        match self.peek().kind {
-            Kind::Value => {
-                let text = self.id(alloc)?;
-                self.advance();
-                Ok(Name { text, made: false })
-            }
-            _ => Err(self.refusal()),
-        }
-    }
-
-    /// The name of a function.
-    pub fn symbol(&mut self, alloc: Global) -> Result<Text, ParseFault> {
-        match self.peek().kind {
-            Kind::Symbol => {
-                let text = self.id(alloc)?;
-                self.advance();
-                Ok(text)
-            }
-            _ => Err(self.refusal()),
-        }
-    }
-
-    /// Digits without a sign.
-    fn digits(&mut self, most: u64) -> Result<u64, ParseFault>
-        ensures { IfOk result (λ value. value ≤ most) }
+    pub(crate) fn next_is_word(&self, word: &[u8]) -> bool
+        ensures { result ≡ tok.at_word word.now (head self.now) }
     {
-        match self.peek().kind {
-            Kind::Int(value) if value <= most => {
-                self.advance();
-                Ok(value)
-            }
-            _ => Err(self.refusal()),
+        match self.rest {
+            [first, ..] => match first.kind {
+                Kind::Word => bytes_of(self.source, *first) == word,
+                _ => false,
+            },
+            [] => false,
         }
     }
 
-    /// An integer with an optional sign, within 64 bits.
-    pub fn integer(&mut self) -> Result<i64, ParseFault> {
-        if !self.next_is_punct(b'-') {
-            let value = self.digits(9223372036854775807)?;
-            return Ok(value as i64);
+    pub(crate) fn at_number(&self) -> bool
+        ensures { result ≡ tok.at_number (head self.now) }
+    {
+        match self.rest {
+            [first, ..] => matches!(first.kind, Kind::Int(_)),
+            [] => false,
         }
-        self.advance();
-        let value = self.digits(9223372036854775808)?;
-        Ok((-(value as i128)) as i64)
+    }
+
+    pub(crate) fn at_value(&self) -> bool
+        ensures { result ≡ tok.at_value (head self.now) }
+    {
+        match self.rest {
+            [first, ..] => matches!(first.kind, Kind::Value),
+            [] => false,
+        }
+    }
+
+    pub(crate) fn at_alias(&self) -> bool
+        ensures { result ≡ tok.at_alias (head self.now) }
+    {
+        match self.rest {
+            [first, ..] => matches!(first.kind, Kind::Alias),
+            [] => false,
+        }
+    }
+
+    pub(crate) fn at_size(&self) -> bool
+        ensures { result ≡ tok.at_size (head self.now) }
+    {
+        match self.rest {
+            [first, ..] => matches!(first.kind, Kind::Sizes),
+            [] => false,
+        }
+    }
+
+    pub(crate) fn at_integer(&self) -> bool
+        ensures { result ≡ tok.at_integer (head self.now) }
+    {
+        match self.rest {
+            [first, ..] => match first.kind {
+                Kind::Punct(b) => b == b'-',
+                Kind::Int(_) => true,
+                _ => false,
+            },
+            [] => false,
+        }
+    }
+
+    pub(crate) fn at_sum(&self) -> bool
+        ensures { result ≡ tok.at_sum (head self.now) }
+    {
+        match self.rest {
+            [first, ..] => match first.kind {
+                Kind::Punct(b) => b == b'+' || b == b'-',
+                _ => false,
+            },
+            [] => false,
+        }
+    }
+
+    pub(crate) fn at_product(&self) -> bool
+        ensures { result ≡ tok.at_product (head self.now) }
+    {
+        match self.rest {
+            [first, ..] => match first.kind {
+                Kind::Punct(b) => b == b'*',
+                Kind::Word => product_word(bytes_of(self.source, *first)).is_some(),
+                _ => false,
+            },
+            [] => false,
+        }
+    }
+
+    pub(crate) fn at_statement(&self) -> bool
+        ensures { result ≡ tok.at_stmt (head self.now) }
+    {
+        match self.rest {
+            [first, ..] => match first.kind {
+                Kind::Value => true,
+                Kind::Word => action_of(bytes_of(self.source, *first)).is_some(),
+                _ => false,
+            },
+            [] => false,
+        }
+    }
+
+    pub(crate) fn sign(&mut self, mark: u8) -> Result<(), Refusal>
+        ensures { Takes result (take_by (tok.sign mark) self.old) self.new }
+    {
+        match self.rest {
+            [first, rest @ ..] => match first.kind {
+                Kind::Punct(b) if b == mark => {
+                    self.rest = rest;
+                    Ok(())
+                }
+                _ => Err(Refusal::Here),
+            },
+            [] => Err(Refusal::Here),
+        }
+    }
+
+    pub(crate) fn word(&mut self, word: &[u8]) -> Result<(), Refusal>
+        ensures { Takes result (take_by (tok.word word.now) self.old) self.new }
+    {
+        match self.rest {
+            [first, rest @ ..] => match first.kind {
+                Kind::Word if bytes_of(self.source, *first) == word => {
+                    self.rest = rest;
+                    Ok(())
+                }
+                _ => Err(Refusal::Here),
+            },
+            [] => Err(Refusal::Here),
+        }
+    }
+
+    pub(crate) fn arrow(&mut self) -> Result<(), Refusal>
+        ensures { Takes result (take_by tok.arrow self.old) self.new }
+    {
+        match self.rest {
+            [first, rest @ ..] => match first.kind {
+                Kind::Arrow => {
+                    self.rest = rest;
+                    Ok(())
+                }
+                _ => Err(Refusal::Here),
+            },
+            [] => Err(Refusal::Here),
+        }
+    }
+
+    pub(crate) fn relation(&mut self) -> Result<Rel, Refusal>
+        ensures { Takes result (take_by tok.relation self.old) self.new }
+    {
+        match self.rest {
+            [first, rest @ ..] => {
+                let relation = match first.kind {
+                    Kind::GreaterEqual => Rel::Ge,
+                    Kind::LessEqual => Rel::Le,
+                    Kind::Equal => Rel::Eq,
+                    _ => return Err(Refusal::Here),
+                };
+                self.rest = rest;
+                Ok(relation)
+            }
+            [] => Err(Refusal::Here),
+        }
+    }
+
+    pub(crate) fn value(&mut self, alloc: Global) -> Result<Name, Refusal>
+        ensures { Takes result (take_by tok.value self.old) self.new }
+    {
+        match self.rest {
+            [first, rest @ ..] => match first.kind {
+                Kind::Value => {
+                    let name = named(alloc, behind_first(bytes_of(self.source, *first)))?;
+                    self.rest = rest;
+                    Ok(name)
+                }
+                _ => Err(Refusal::Here),
+            },
+            [] => Err(Refusal::Here),
+        }
+    }
+
+    /// A value, with the line on which it stands.
+    pub(crate) fn value_on_line(&mut self, alloc: Global) -> Result<(u32, Name), Refusal>
+        ensures { Takes result (take_by (tok.lined tok.value) self.old) self.new }
+    {
+        match self.rest {
+            [first, rest @ ..] => match first.kind {
+                Kind::Value => {
+                    let name = named(alloc, behind_first(bytes_of(self.source, *first)))?;
+                    self.rest = rest;
+                    Ok((first.line, name))
+                }
+                _ => Err(Refusal::Here),
+            },
+            [] => Err(Refusal::Here),
+        }
+    }
+
+    /// A word, with the line on which it stands.
+    pub(crate) fn word_on_line(&mut self, word: &[u8]) -> Result<(u32, ()), Refusal>
+        ensures { Takes result (take_by (tok.lined (tok.word word.now)) self.old) self.new }
+    {
+        match self.rest {
+            [first, rest @ ..] => match first.kind {
+                Kind::Word if bytes_of(self.source, *first) == word => {
+                    self.rest = rest;
+                    Ok((first.line, ()))
+                }
+                _ => Err(Refusal::Here),
+            },
+            [] => Err(Refusal::Here),
+        }
+    }
+
+    pub(crate) fn function_name(&mut self, alloc: Global) -> Result<Text, Refusal>
+        ensures { Takes result (take_by tok.function_name self.old) self.new }
+    {
+        match self.rest {
+            [first, rest @ ..] => match first.kind {
+                Kind::Symbol => {
+                    let name = text_of(alloc, behind_first(bytes_of(self.source, *first)))?;
+                    self.rest = rest;
+                    Ok(name)
+                }
+                _ => Err(Refusal::Here),
+            },
+            [] => Err(Refusal::Here),
+        }
+    }
+
+    /// An integer without a sign.
+    pub(crate) fn integer(&mut self) -> Result<i64, Refusal>
+        ensures { Takes result (take_by tok.integer self.old) self.new }
+    {
+        match self.rest {
+            [first, rest @ ..] => match first.kind {
+                Kind::Int(n) if n <= 9_223_372_036_854_775_807 => {
+                    self.rest = rest;
+                    Ok(n as i64)
+                }
+                _ => Err(Refusal::Here),
+            },
+            [] => Err(Refusal::Here),
+        }
+    }
+
+    /// An integer behind its `-`.
+    pub(crate) fn negative(&mut self) -> Result<i64, Refusal>
+        ensures { Takes result (take_by tok.negative self.old) self.new }
+    {
+        match self.rest {
+            [first, rest @ ..] => match first.kind {
+                Kind::Int(n) if n <= 9_223_372_036_854_775_808 => {
+                    self.rest = rest;
+                    Ok(negated(n))
+                }
+                _ => Err(Refusal::Here),
+            },
+            [] => Err(Refusal::Here),
+        }
     }
 }

@@ -1,12 +1,23 @@
-//! The parser: from the bytes of a text to its module.
+//! The parser: from the bytes of a text to the one module that they spell.
 //!
-//! Today it reads the productions that the first form needs, one function each, over the tokens of `affine_lex`. It is safe
-//! on every text and always ends; that it reads exactly the texts of the grammar isn't stated yet.
+//! `parse` is exact: it gives a module exactly where the bytes spell it by the grammar of `affine_grammar`, and refuses all
+//! other bytes at the first token that no module can have there. There is one function for each production, and its clause
+//! is the reader of that production. The crate stands on `affine_lex`, `affine_grammar` and `affine_ast`.
 #![tactic(auto)]
 
+mod actions;
 mod cursor;
+mod definitions;
+mod expressions;
 mod function;
-mod statement;
+mod leaves;
+mod maps;
+mod names;
+mod refusal;
+mod regions;
+mod text;
 mod types;
+mod words;
 
-pub use function::{ParseFault, parse};
+pub use refusal::ParseFault;
+pub use text::parse;

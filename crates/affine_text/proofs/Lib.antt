@@ -1,0 +1,4 @@
+pub mod Answers
+pub mod Braces
+pub mod Digits
+pub mod Lookup

@@ -1,0 +1,53 @@
+// Why nothing was read.
+ghost use Rattle.std.specs.Prelude.{◌≡◌};
+
+use std::alloc::{AllocError, AllocFailed};
+use thiserror::Error;
+
+/// Why no module was read.
+#[derive(Clone, Copy, Debug, Error)]
+pub enum ParseFault {
+    /// The place of the first token that no module can have there, counted from 1, the column in bytes.
+    #[error("text {line}:{column}")]
+    Text { line: u32, column: u32 },
+    #[error("out of memory")]
+    Memory,
+}
+
+impl From<AllocError> for ParseFault {
+    ghost use Rattle.affine_text.specs.declared.refusal.ParseFault.TheVariants.{Memory};
+
+    ghost from_gives = { λ _ fault. fault ≡ Memory };
+
+    fn from(_error: AllocError) -> ParseFault {
+        ParseFault::Memory
+    }
+}
+
+/// Why a production was not read.
+#[derive(Clone, Copy, Debug)]
+pub(crate) enum Refusal {
+    /// The next token can't stand here.
+    Here,
+    Memory,
+}
+
+impl From<AllocError> for Refusal {
+    ghost use Rattle.affine_text.specs.declared.refusal.Refusal.TheVariants.{Memory};
+
+    ghost from_gives = { λ _ refusal. refusal ≡ Memory };
+
+    fn from(_error: AllocError) -> Refusal {
+        Refusal::Memory
+    }
+}
+
+impl<T: Drop> From<AllocFailed<T>> for Refusal {
+    ghost use Rattle.affine_text.specs.declared.refusal.Refusal.TheVariants.{Memory};
+
+    ghost from_gives = { λ _ refusal. refusal ≡ Memory };
+
+    fn from(_error: AllocFailed<T>) -> Refusal {
+        Refusal::Memory
+    }
+}
