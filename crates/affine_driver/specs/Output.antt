@@ -1,4 +1,4 @@
--- What `stage` writes.
+-- What a command writes.
 use Rattle.std.specs.Prelude.{◌≡◌, ℕ, ◌*◌, Bool, true, false, List, ◌++◌, codes}
 use Rattle.std.specs.Fmt.{decimal}
 use Rattle.std.specs.List.{flat_map}
@@ -8,6 +8,9 @@ use Rattle.affine_ast.specs.Spelling.{name_text, spelling}
 use Rattle.first_path.specs.declared.place.Placement.{Placement}
 use Rattle.first_path.specs.declared.stage.Staged.{Staged}
 use Rattle.first_path.specs.Law.{IsStagedBy, RunsAs}
+use Rattle.affine_grammar.specs.Spelling.{Spells}
+use Rattle.affine_driver.specs.declared.command.Command.{Command}
+use Rattle.affine_driver.specs.declared.command.Command.TheVariants.{Check, Stage}
 
 -- the block, which is the first and only one, its line and the memref
 unfoldable pub subject_text : ℕ → Name → List ℕ
@@ -30,11 +33,21 @@ report_line line placed = subject_text line placed.memref ++ (amount_text placed
 abbrev pub report : ℕ → List Placement → List ℕ
 report line placements = flat_map (report_line line) placements
 
--- the output of a text: report and printed spelling of the staged module of a module of the first form, which runs as
--- that module does
-pub record IsOutput (output : List ℕ) : Type 0 where
-  pub input : Module
+-- what `stage` writes of a module: report and printed spelling of the staged module of a module of the first form, which
+-- runs as that module does
+pub record IsStageOutput (input : Module) (output : List ℕ) : Type 0 where
   pub staged : Staged
   pub by : IsStagedBy input staged
   pub runs : RunsAs input staged.module
   pub text : output ≡ report staged.line staged.placements ++ spelling staged.module
+
+-- what a command writes of a module; `check` writes its printed spelling
+abbrev pub Writes : Command → Module → List ℕ → Type 0
+Writes Check input output = output ≡ spelling input
+Writes Stage input output = IsStageOutput input output
+
+-- the output of the bytes under a command: that of the module which they spell
+pub record IsOutput (command : Command) (bytes output : List ℕ) : Type 0 where
+  pub input : Module
+  pub spelled : Spells bytes input
+  pub writes : Writes command input output
