@@ -4,7 +4,7 @@ use Rattle.std.specs.Io.KnownBytes.{Appends, Consumes, IsAtEnd}
 use Rattle.affine_ast.specs.declared.module.Module.{Module}
 use Rattle.affine_grammar.specs.Spelling.{Spells, IsRefused}
 use Rattle.affine_driver.specs.declared.command.Command.{Command}
-use Rattle.affine_driver.specs.declared.command.Command.TheVariants.{Check, Stage}
+use Rattle.affine_driver.specs.declared.command.Command.TheVariants.{Stage}
 use Rattle.affine_driver.specs.declared.ending.Ending.{Ending}
 use Rattle.affine_driver.specs.declared.ending.Ending.TheVariants.{Done, Words, ReadFault, TooLong, Text, Unbuilt, WriteFault, Memory}
 use Rattle.affine_driver.specs.Output.{IsOutput}

@@ -1,4 +1,1 @@
 pub mod Answers
-pub mod Braces
-pub mod Digits
-pub mod Lookup

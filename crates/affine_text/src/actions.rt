@@ -4,16 +4,14 @@ ghost use Rattle.readers.specs.Readers.{optional};
 ghost use Rattle.affine_grammar.specs.ReadingFile as spec;
 ghost use Rattle.affine_grammar.specs.Token as tok;
 ghost use Rattle.affine_grammar.specs.declared.words.Action.TheVariants as action;
-ghost use Rattle.affine_text.specs.Input.{Takes};
+ghost use Rattle.token_cursor.specs.Input.{Takes};
 
-use crate::cursor::Tokens;
 use crate::definitions::typed;
-use crate::maps::{brackets, subscripts};
-use crate::refusal::Refusal;
-use crate::types::memref;
-use affine_ast::{Access, MemrefType, Name, What};
+use affine_ast::{Access, Name, What};
 use affine_grammar::Alias;
+use expression_text::{brackets, memref, subscripts};
 use std::alloc::Global;
+use token_cursor::{Refusal, Tokens};
 
 #[tactic(auto, unfolding(affine_grammar::specs::ReadingFile::acted))]
 pub(crate) fn store(

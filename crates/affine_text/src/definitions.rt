@@ -1,79 +1,17 @@
 // Bounds of loops, and the statements that hold no regions.
-ghost use Rattle.std.specs.Prelude.{◌≡◌, codes, pos, true};
-ghost use Rattle.readers.specs.Limits.{limited};
-ghost use Rattle.readers.specs.Readers.{optional, take_by};
-ghost use Rattle.affine_grammar.specs.Reading as reading;
+ghost use Rattle.std.specs.Prelude.{◌≡◌, codes, pos};
+ghost use Rattle.readers.specs.Readers.{optional};
 ghost use Rattle.affine_grammar.specs.ReadingFile as spec;
-ghost use Rattle.affine_grammar.specs.Spelling.{tokens_of};
 ghost use Rattle.affine_grammar.specs.Token as tok;
-ghost use Rattle.affine_grammar.specs.declared.words.Action.TheVariants as action;
 ghost use Rattle.affine_grammar.specs.declared.words.Definition.TheVariants as definition;
-ghost use Rattle.affine_text.specs.Input.{Takes};
+ghost use Rattle.token_cursor.specs.Input.{Takes};
 
-use crate::cursor::{Tokens, bytes_of};
-use crate::maps::{brackets, subscripts, use_of};
-use crate::refusal::Refusal;
-use crate::types::{memref, signed};
-use crate::words::{action_of, definition_of};
-use affine_ast::{Access, Bound, MemrefType, Name, Pick, What};
-use affine_grammar::{Action, Alias, Definition, Turns};
-use affine_lex::{Kind, Token};
+use affine_ast::{Bound, MemrefType, Name, Pick, What};
+use affine_grammar::{Alias, Definition, Turns};
+use expression_text::{brackets, memref, signed, subscripts, use_of};
 use int_ops::{CastKind, Op};
 use std::alloc::Global;
-
-impl<'a> Tokens<'a> {
-    /// The word of a statement behind a result.
-    pub(crate) fn definition(&mut self) -> Result<Definition, Refusal>
-        ensures { Takes result (take_by tok.definition_word self.old) self.new }
-    {
-        match self.rest {
-            [first, rest @ ..] => match first.kind {
-                Kind::Word => match definition_of(bytes_of(self.source, *first)) {
-                    Some(definition) => {
-                        self.rest = rest;
-                        Ok(definition)
-                    }
-                    None => Err(Refusal::Here),
-                },
-                _ => Err(Refusal::Here),
-            },
-            [] => Err(Refusal::Here),
-        }
-    }
-
-    /// The word of a statement without a result, with the line on which it stands.
-    pub(crate) fn action(&mut self) -> Result<(u32, Action), Refusal>
-        ensures { Takes result (take_by (tok.lined tok.action_word) self.old) self.new }
-    {
-        match self.rest {
-            [first, rest @ ..] => match first.kind {
-                Kind::Word => match action_of(bytes_of(self.source, *first)) {
-                    Some(action) => {
-                        self.rest = rest;
-                        Ok((first.line, action))
-                    }
-                    None => Err(Refusal::Here),
-                },
-                _ => Err(Refusal::Here),
-            },
-            [] => Err(Refusal::Here),
-        }
-    }
-
-    /// The brace of a region too many, which stands nowhere in a text.
-    pub(crate) fn brace_too_many(&mut self) -> Result<(), Refusal>
-        ensures { Takes result (take_by (limited true (tok.sign 123)) self.old) self.new }
-    {
-        one_brace_too_many(self.source, self.rest)
-    }
-}
-
-#[tactic(auto, using(crate::proofs::Braces::brace_refused))]
-fn one_brace_too_many(source: &[u8], rest: &[Token]) -> Result<(), Refusal>
-    ensures { Takes result (take_by (limited true (tok.sign 123)) (tokens_of source.now rest.now)) (tokens_of source.now rest.now) }
-{
-    Err(Refusal::Here)
-}
+use token_cursor::{Refusal, Tokens};
 
 /// A bound, in which several results need this word.
 #[tactic(auto, unfolding(affine_grammar::specs::ReadingFile::bound_of))]

@@ -3,18 +3,16 @@ ghost use Rattle.std.specs.Prelude.{◌≡◌, ◌++◌, ◌∷◌, [], codes, M
 ghost use Rattle.readers.specs.Readers.{bind, many, optional};
 ghost use Rattle.affine_grammar.specs.ReadingFile as spec;
 ghost use Rattle.affine_grammar.specs.Token as tok;
-ghost use Rattle.affine_text.specs.Input.{Takes};
+ghost use Rattle.token_cursor.specs.Input.{Takes};
 
-use crate::cursor::Tokens;
-use crate::maps::{map0, set0};
-use crate::refusal::Refusal;
 use crate::regions::statements;
-use crate::types::{memref, signed};
 use affine_ast::{Arg, ArgKind, Module, Stmt, What};
 use affine_expr::Interval;
 use affine_grammar::{Alias, Body};
+use expression_text::{map0, memref, set0, signed};
 use sqlite_items::Items;
 use std::alloc::Global;
+use token_cursor::{Refusal, Tokens};
 
 /// How many regions may stand inside the function's, one inside the other.
 const LEVELS: u32 = 39;

@@ -2,22 +2,15 @@
 //!
 //! `parse` is exact: it gives a module exactly where the bytes spell it by the grammar of `affine_grammar`, and refuses all
 //! other bytes at the first token that no module can have there. There is one function for each production, and its clause
-//! is the reader of that production. The crate stands on `affine_lex`, `affine_grammar` and `affine_ast`.
+//! is the reader of that production. The crate stands on `expression_text` and `token_cursor`.
 #![tactic(auto)]
 
 mod actions;
-mod cursor;
 mod definitions;
-mod expressions;
+mod fault;
 mod function;
-mod leaves;
-mod maps;
-mod names;
-mod refusal;
 mod regions;
 mod text;
-mod types;
-mod words;
 
-pub use refusal::ParseFault;
+pub use fault::ParseFault;
 pub use text::parse;

@@ -4,18 +4,17 @@ ghost use Rattle.readers.specs.Readers.{optional};
 ghost use Rattle.affine_grammar.specs.ReadingFile as spec;
 ghost use Rattle.affine_grammar.specs.Token as tok;
 ghost use Rattle.affine_grammar.specs.declared.words.Action.TheVariants.{For, If};
-ghost use Rattle.affine_text.specs.Input.{Takes};
-ghost use Rattle.affine_text.specs.declared.refusal.Refusal.TheVariants.{Memory};
+ghost use Rattle.token_cursor.specs.Input.{Takes};
+ghost use Rattle.token_cursor.specs.declared.refusal.Refusal.TheVariants.{Memory};
 
 use crate::actions::{dealloc, raw_store, start, store, wait};
-use crate::cursor::Tokens;
 use crate::definitions::{defined, turns_of};
-use crate::maps::{operands, some_set};
-use crate::refusal::Refusal;
 use affine_ast::{Stmt, What};
 use affine_grammar::{Action, Alias};
+use expression_text::{operands, some_set};
 use sqlite_items::Items;
 use std::alloc::Global;
+use token_cursor::{Refusal, Tokens};
 
 /// The statements between braces, and the operands of the module up to their end. One region too many is refused at its
 /// brace.

@@ -1,26 +1,16 @@
 // A whole text.
-ghost use Rattle.std.specs.Prelude.{◌≡◌, ◌<◌, ◌++◌, ◌∷◌, [], ℕ, List, length};
+ghost use Rattle.std.specs.Prelude.{◌<◌, ◌++◌, ◌∷◌, [], length};
 ghost use Rattle.affine_ast.specs.declared.module.Module.{Module as ModuleShape};
-ghost use Rattle.affine_grammar.specs.Spelling.{Spells, Stands, tokens_of};
+ghost use Rattle.affine_grammar.specs.Spelling.{Spells};
 ghost use Rattle.affine_lex.specs.Tokens.{AreTokens};
-ghost use Rattle.affine_text.specs.Input.{Parses, Allows};
+ghost use Rattle.affine_text.specs.Parsed.{Parses, Allows};
 
-use crate::cursor::Tokens;
+use crate::fault::ParseFault;
 use crate::function::file;
-use crate::refusal::{ParseFault, Refusal};
 use affine_ast::Module;
 use affine_lex::{Token, tokens};
 use std::alloc::Global;
-
-/// The first token that is left, or the end of the text.
-fn next_of(rest: &[Token], end: Token) -> Token
-    ensures { (source : List ℕ) → Stands (tokens_of source rest.now) end result.line result.column }
-{
-    match rest {
-        [first, ..] => *first,
-        [] => end,
-    }
-}
+use token_cursor::{Refusal, Tokens};
 
 /// The module of the tokens of a text, which are given without their end.
 fn module_of(
@@ -32,22 +22,18 @@ fn module_of(
     requires { AreTokens source.now (texts.now ++ end ∷ []) }
     ensures { Parses result source.now }
 {
-    let mut tokens = Tokens {
-        source,
-        rest: texts,
-    };
+    let mut tokens = Tokens::new(source, texts);
     let read = file(alloc, &mut tokens);
-    let Tokens { rest, .. } = tokens;
-    let next = next_of(rest, end);
-    let refused = ParseFault::Text {
-        line: next.line,
-        column: next.column,
-    };
+    let (line, column) = tokens.place(end);
+    let refused = ParseFault::Text { line, column };
     match read {
-        Ok(module) => match rest {
-            [] => Ok(module),
-            [_, ..] => Err(refused),
-        },
+        Ok(module) => {
+            if tokens.is_done() {
+                Ok(module)
+            } else {
+                Err(refused)
+            }
+        }
         Err(refusal) => match refusal {
             Refusal::Here => Err(refused),
             Refusal::Memory => Err(ParseFault::Memory),

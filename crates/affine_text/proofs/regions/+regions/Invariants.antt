@@ -1,4 +1,4 @@
-use Rattle.std.proofs.Common.{◌≡◌, ℕ, ◌+◌, ◌*◌, length}
+use Rattle.std.proofs.Common.{◌≡◌, ◌+◌, ◌*◌, length}
 use Rattle.readers.specs.Readers.{many}
 use Rattle.affine_grammar.specs.ReadingFile as spec
 use Rattle.affine_grammar.specs.Token as tok

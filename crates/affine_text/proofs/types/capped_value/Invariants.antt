@@ -1,6 +1,0 @@
-use Rattle.std.proofs.Common.{◌≡◌, min, take}
-use Rattle.std.specs.Str.Parse.{digits_value}
-use Rattle.affine_text.proofs.types.capped_value.Given as goal
-
-abbrev pub invariant-digits : goal.invariant-digits
-invariant-digits l = l.value ≡ min (digits_value 10 (take l.digit-index l.digits)) 4294967296
