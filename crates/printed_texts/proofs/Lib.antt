@@ -1,3 +1,5 @@
 pub mod Pieces
 pub mod Marks
 pub mod Given
+pub mod Depths
+pub mod Places

@@ -41,6 +41,9 @@ id_digit b h = grind (arith, nat_tests)
 
 -- ---- signs
 
+pub tight_piece : {A : Type 0} (n : ℕ) (p : Tok → Option A) (x : A) → is_sign n ≡ true → is_white n ≡ false → (n == 47) ≡ false → ((r : List ℕ) → is_pair n (slice_index r 0) ≡ false) → ((line column : ℕ) → p (tok (k.Punct n, n ∷ []) line column) ≡ Some x) → Prints false (n ∷ []) (One p) x
+tight_piece n p x s w c i a = piece (k.Punct n) (n ∷ []) p x (λ rest qs t h. cut_token (after_word []) (k.Punct n) n [] rest qs w c (sign_again false n rest s (i rest)) h) a
+
 -- a sign that may begin one of two bytes
 open_sign : (n : ℕ) → is_sign n ≡ true → is_white n ≡ false → (n == 47) ≡ false → (n == n) ≡ true → ((m : ℕ) → (m == 61) ≡ false → is_pair n m ≡ false) → Prints true (n ∷ []) (One (sign n)) tt
 open_sign n s w c e p =
@@ -113,7 +116,7 @@ equal_piece p x a = piece k.Equal (codes "==") p x (λ rest qs t h. cut_token (a
 
 -- ---- words
 
-pub all_word : List ℕ → Bool
+abbrev pub all_word : List ℕ → Bool
 all_word [] = true
 all_word (b ∷ w) = is_word_byte b && all_word w
 
@@ -123,7 +126,6 @@ is_keyword [] = false
 is_keyword (b ∷ w) = is_word_first b && (all_word w && not (bytes_eq (b ∷ w) (codes "memref")))
 
 pub word_form : (b : ℕ) (w : List ℕ) → is_word_first b ≡ true → all_word w ≡ true → HasForm false k.Word (b ∷ w)
-unfolding all_word
 word_form b [] f h = (f, tt)
 word_form b (c ∷ w) f h = (f, (and_left (is_word_byte c) (all_word w) h, (word_form b w f (and_right (is_word_byte c) (all_word w) h)).1))
 

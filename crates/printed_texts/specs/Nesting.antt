@@ -1,5 +1,6 @@
 -- How deep the printed spelling of an expression nests.
-use Rattle.std.specs.Prelude.{ℕ, suc, max, ℤ, pos, negsuc, Bool, true, false, ◌&&◌, not}
+use Rattle.std.specs.Prelude.{ℕ, suc, max, ℤ, pos, negsuc, nat_le, Bool, true, false, ◌&&◌, ◌||◌, not}
+use Rattle.std.specs.Ordering.{int_eq}
 use Rattle.affine_expr.specs.declared.expr.Expr.{Expr, fold-Expr}
 use Rattle.affine_expr.specs.declared.expr.Expr.TheOpen.{Expr-F}
 
@@ -47,3 +48,32 @@ depths = fold-Expr Depths depths_step
 -- the parentheses and negations inside one another in the printed spelling of an expression
 unfoldable pub printed_nesting : Expr → ℕ
 printed_nesting e = (depths e).sum
+
+-- whether an expression is the integer 0, and whether no integer 0 in it is negated
+pub record Zeros : Type 0 where
+  pub zero : Bool
+  pub bare : Bool
+
+abbrev pub both_bare : Zeros → Zeros → Zeros
+both_bare a b = record { zero = false; bare = a.bare && b.bare }
+
+abbrev pub zeros_step : Expr-F Zeros → Zeros
+zeros_step (Expr-F.Dim n) = record { zero = false; bare = true }
+zeros_step (Expr-F.Sym n) = record { zero = false; bare = true }
+zeros_step (Expr-F.Const z) = record { zero = int_eq z (pos 0); bare = true }
+zeros_step (Expr-F.Neg a) = record { zero = false; bare = a.bare && not a.zero }
+zeros_step (Expr-F.Add a b) = both_bare a b
+zeros_step (Expr-F.Sub a b) = both_bare a b
+zeros_step (Expr-F.Mul a b) = both_bare a b
+zeros_step (Expr-F.FloorDiv a b) = both_bare a b
+zeros_step (Expr-F.CeilDiv a b) = both_bare a b
+zeros_step (Expr-F.Mod a b) = both_bare a b
+
+unfoldable pub zeros : Expr → Zeros
+zeros = fold-Expr Zeros zeros_step
+
+-- The printed spelling of an expression of a text nests no deeper than the text may: at most 128 levels,
+-- or no integer 0 in it is negated. A text may spell 0 behind a `-` as `-0`, where the printed spelling
+-- has `(0)`, which is one level more: 129 signs and a `0` are a text, and their printed spelling is none.
+unfoldable pub nests_within : Expr → Bool
+nests_within e = nat_le (printed_nesting e) 128 || (zeros e).bare
