@@ -3,3 +3,4 @@ pub mod Marks
 pub mod Given
 pub mod Depths
 pub mod Places
+pub mod States
