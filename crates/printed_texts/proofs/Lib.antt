@@ -4,3 +4,4 @@ pub mod Given
 pub mod Depths
 pub mod Places
 pub mod States
+pub mod Leaves
