@@ -17,11 +17,12 @@ use Rattle.affine_grammar.specs.declared.words.Leaves.{Leaves}
 use Rattle.affine_grammar.specs.declared.words.Leaves.TheVariants as leaves
 use Rattle.affine_grammar.specs.Token.{Tok, Class, class, sign, word, integer, negative, positive, negated, number, negative_number, counted_leaf, counting, is_full, parameter, parameter_of, or_else, number_of, of_keyword, of_value, dimension, dimension_of, symbol, symbol_of, symbol_word, appears, all_ascii}
 use Rattle.affine_grammar.specs.Grammar.{Leaf, Other}
-use Rattle.printed_texts.specs.Nesting.{Depths, unary_depths, literal_depths, depths}
+use Rattle.affine_lex.proofs.Tests.{true_no}
+use Rattle.printed_texts.specs.Nesting.{Depths, unary_depths, literal_depths, depths, Zeros, zeros}
 use Rattle.printed_texts.proofs.Pieces.{is_word_first, is_word_byte, tok, Prints, seq, prints_as, in_left, in_right, giving, loosen, recast}
 use Rattle.printed_texts.proofs.Marks.{NoArrow, is_keyword, word_piece, keyword, name_piece, number_piece, open_paren, close_paren, IsValueName, all_word, decimal_digits}
 use Rattle.printed_texts.proofs.Given.{Given, IsGiven, given_left, given_right, given_one, limited_some, of_keyword_some, of_value_some, value_name, integer_given, negative_given, IsPositive, IsNegative}
-use Rattle.printed_texts.proofs.Depths.{depths-Dim, depths-Sym, depths-Const}
+use Rattle.printed_texts.proofs.Depths.{depths-Dim, depths-Sym, depths-Const, zeros-Const}
 use Rattle.printed_texts.proofs.Places.{Placed, placed_unary, placed_number, placed_negative, parens}
 use Rattle.printed_texts.proofs.States.{params, param_number, symbol_none, Numbered, number_of_some, numbered_behind, Appeared, appeared, Grown, grown_same, grown_counting, grown_then, numbered_dims, numbered_syms, first_numbered, printed_leaves, moved, Room, moved_counting, not_full, moved_not_full}
 
@@ -275,3 +276,62 @@ minus_told l s f p g h =
     let z = negative_given h.token c.0 c.1.0 in
     let q : (e.Const (neg_ℤ (pos z.magnitude)), counting s) ≡ p = ap (λ (y : ℤ). let o : Expr × State = (e.Const y, counting s) in o) (sym z.is) ∙ c.1.1 in
     subst (Told l s) q (negative_told l s z.magnitude z.small i.0)
+
+-- ---- depths
+
+dim_depths : (x : Expr) (i : ℕ) → e.Dim i ≡ x → depths x ≡ unary_depths 0
+dim_depths x i q = subst (λ y. depths y ≡ unary_depths 0) q (depths-Dim i)
+
+sym_depths : (x : Expr) (i : ℕ) → e.Sym i ≡ x → depths x ≡ unary_depths 0
+sym_depths x i q = subst (λ y. depths y ≡ unary_depths 0) q (depths-Sym i)
+
+parameter_depths : (s : State) (p : Expr × State) → IsParameter s p → depths p.0 ≡ unary_depths 0
+parameter_depths s p (IsDim i q b) = dim_depths p.0 i (sym (ap (λ (x : Expr × State). x.0) q))
+parameter_depths s p (IsSym i q b) = sym_depths p.0 i (sym (ap (λ (x : Expr × State). x.0) q))
+
+pub leaf_depths : (l : Leaves) (s : State) (f : List Tok) (p : Expr × State) → Given f → Leaf l s f p → depths p.0 ≡ unary_depths 0
+leaf_depths leaves.Parameters s f p g h =
+    let i = limited_some (is_full s) (λ t. of_keyword (parameter_of s) (class t)) h.token p (given_one f h.token h.alone g).counted h.accepted in
+    let w = of_keyword_some (parameter_of s) p (class h.token) i.1 in
+    parameter_depths s p (parameter_is s w.0 p w.1.1)
+leaf_depths leaves.Values s f p g (inr h) =
+    let t = given_one f h.token h.alone g in
+    let i = limited_some (is_full s) (λ t. of_value (λ v. Some (dimension_of s v)) (class t)) h.token p t.counted h.accepted in
+    let w = of_value_some (λ v. Some (dimension_of s v)) p (class h.token) i.1 in
+    let q : dimension_of s w.0 ≡ p = cc (w.1.1) in
+    dim_depths p.0 (appears w.0 s.dims).0 (ap (λ (x : Expr × State). x.0) q)
+leaf_depths leaves.Values s f p g (inl h) =
+    let y = h.second.second.first in
+    let w = of_value_some (λ v. Some (symbol_of s v)) h.second.second.value (class y.token) y.accepted in
+    let q : symbol_of s w.0 ≡ h.second.second.value = cc (w.1.1) in
+    let r : symbol_of s w.0 ≡ p = q ∙ sym h.second.second.second.second.1 in
+    sym_depths p.0 (appears w.0 s.syms).0 (ap (λ (x : Expr × State). x.0) r)
+
+literal_unary : (z : ℤ) → (literal_depths z).unary ≡ 0
+literal_unary (pos n) = refl
+literal_unary (negsuc n) = refl
+
+const_depths : (x : Expr) (z : ℤ) → e.Const z ≡ x → (depths x).unary ≡ 0
+const_depths x z q = subst (λ y. (depths y).unary ≡ 0) q (ap (λ (d : Depths). d.unary) (depths-Const z) ∙ literal_unary z)
+
+pub integer_depths : (s : State) (f : List Tok) (p : Expr × State) → Given f → One (number s) f p → (depths p.0).unary ≡ 0
+integer_depths s f p g h =
+    let i = limited_some (is_full s) (λ t. counted_leaf (λ z. e.Const z) s (integer t)) h.token p (given_one f h.token h.alone g).counted h.accepted in
+    let c = counted_some (λ z. e.Const z) s (integer h.token) p i.1 in
+    const_depths p.0 c.0 (ap (λ (x : Expr × State). x.0) c.1.1)
+
+-- an integer behind a `-` is below 0, or it is 0
+pub record MinusDepths (x : Expr) : Type 0 where
+  pub unary : (depths x).unary ≡ 0
+  pub negated : (zeros x).zero ≡ false → (depths x).negated ≡ 0
+
+minus_case : (n : ℕ) → MinusDepths (e.Const (neg_ℤ (pos n)))
+minus_case zero = record { unary = const_depths (e.Const (pos 0)) (pos 0) refl; negated = λ c. let z : (zeros (e.Const (pos 0))).zero ≡ true = ap (λ (d : Zeros). d.zero) (zeros-Const (pos 0)) in absurd (true_no (sym z ∙ c)) }
+minus_case (suc n) = record { unary = const_depths (e.Const (negsuc n)) (negsuc n) refl; negated = λ c. ap (λ (d : Depths). d.negated) (depths-Const (negsuc n)) }
+
+pub minus_depths : (s : State) (f : List Tok) (p : Expr × State) → Given f → One (negative_number s) f p → MinusDepths p.0
+minus_depths s f p g h =
+    let i = limited_some (is_full s) (λ t. counted_leaf (λ z. e.Const z) s (negative t)) h.token p (given_one f h.token h.alone g).counted h.accepted in
+    let c = counted_some (λ z. e.Const z) s (negative h.token) p i.1 in
+    let z = negative_given h.token c.0 c.1.0 in
+    subst MinusDepths (ap (λ (y : ℤ). e.Const y) (sym z.is) ∙ ap (λ (x : Expr × State). x.0) c.1.1) (minus_case z.magnitude)

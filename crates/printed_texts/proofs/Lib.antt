@@ -5,3 +5,4 @@ pub mod Depths
 pub mod Places
 pub mod States
 pub mod Leaves
+pub mod Expressions
