@@ -22,7 +22,7 @@ use Rattle.printed_texts.proofs.Marks.{NoArrow, minus_then}
 use Rattle.printed_texts.proofs.Given.{Given, given_left, given_right, of_keyword_some}
 use Rattle.printed_texts.proofs.Depths.{depths-Neg, depths-Add, depths-Sub, depths-Mul, depths-FloorDiv, depths-CeilDiv, depths-Mod, zeros-Neg, zeros-Add, zeros-Sub, zeros-Mul, zeros-FloorDiv, zeros-CeilDiv, zeros-Mod}
 use Rattle.printed_texts.proofs.Places.{Placed, placed_sum, placed_product, placed_unary, product_more, sum_more, plus_op, minus_op, star_op, floor_op, ceil_op, mod_op}
-use Rattle.printed_texts.proofs.States.{Grown, grown_then, printed_leaves, moved, Room}
+use Rattle.printed_texts.proofs.States.{Grown, grown_then, printed_leaves, moved, Room, Fixed, fixed_then}
 use Rattle.printed_texts.proofs.Leaves.{Again, Told, leaf_told, integer_told, minus_told, leaf_depths, integer_depths, minus_depths}
 
 max_left : (a b n : ℕ) → max a b ≤ n → a ≤ n
@@ -66,6 +66,7 @@ module _ (l : Leaves) (d : ℕ) (final s : State) (a b : Expr × State) (p : Aga
 pub joined_told : (l : Leaves) (s : State) (a b : Expr × State) (o : Operator) → Told l s a → Told l a.1 b → Told l s (joined o a.0 b.0, b.1)
 joined_told l s a b o p q = record {
   grown = grown_then s a.1 b.1 p.grown q.grown;
+  fixed = fixed_then l s a.1 b.1 p.fixed q.fixed;
   placed = λ d final room g. joined_again l d final s a b (p.placed d final room (grown_then a.1 b.1 final q.grown g)) (q.placed d final room g) o;
 }
 
@@ -83,7 +84,7 @@ neg_again l d final s a p =
     negated (suc n) h = in_left (minus_then (in_right (giving (λ (z : Expr × State). (e.Neg z.0, z.1)) (p.negated n (omega (arith, h))))) p.plain)
 
 neg_told : (l : Leaves) (s : State) (a : Expr × State) → Told l s a → Told l s (e.Neg a.0, a.1)
-neg_told l s a p = record { grown = p.grown; placed = λ d final room g. neg_again l d final s a (p.placed d final room g) }
+neg_told l s a p = record { grown = p.grown; fixed = p.fixed; placed = λ d final room g. neg_again l d final s a (p.placed d final room g) }
 
 -- ---- depths
 
@@ -363,10 +364,15 @@ moved_begun : (l : Leaves) (d : ℕ) (s : State) → moved l d (begun s) ≡ beg
 moved_begun leaves.Parameters d s = refl
 moved_begun leaves.Values d s = refl
 
+fixed_begun : (l : Leaves) (s t : State) → Fixed l (begun s) t → Fixed l s t
+fixed_begun leaves.Parameters s t f = f
+fixed_begun leaves.Values s t f = tt
+
 -- an expression of a given text, and of its printed spelling
 pub record ToldExpression (l : Leaves) (s : State) (p : Expr × State) : Type 0 where
   pub grown : Grown s p.1
-  pub again : (d : ℕ) (final : State) → Room d final → Grown p.1 final → nests_within p.0 ≡ true → Prints true (expression_text (printed_leaves l final) p.0) (Expression l (moved l d s)) (p.0, moved l d p.1)
+  pub fixed : Fixed l s p.1
+  pub again : (d : ℕ) (final : State) → Room l d final → Grown p.1 final → nests_within p.0 ≡ true → Prints true (expression_text (printed_leaves l final) p.0) (Expression l (moved l d s)) (p.0, moved l d p.1)
 
 pub expression_told : (l : Leaves) (s : State) (f : List Tok) (p : Expr × State) → Given f → Expression l s f p → ToldExpression l s p
 unfolding expression_text
@@ -375,5 +381,6 @@ expression_told l s f p g h =
     let b = t.told.grown in
     record {
       grown = record { dims = b.dims; dims_are = b.dims_are; syms = b.syms; syms_are = b.syms_are; total = b.total; kept = b.kept };
+      fixed = fixed_begun l s p.1 t.told.fixed;
       again = λ d final room i n. subst (λ u. Prints true (texts (printed_leaves l final) p.0).sum (Sum (Unary l 128) u) (p.0, moved l d p.1)) (moved_begun l d s) ((t.told.placed d final room i).sum 128 (nesting_within p.0 t.within n));
     }

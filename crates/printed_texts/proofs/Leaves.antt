@@ -24,7 +24,7 @@ use Rattle.printed_texts.proofs.Marks.{NoArrow, is_keyword, word_piece, keyword,
 use Rattle.printed_texts.proofs.Given.{Given, IsGiven, given_left, given_right, given_one, limited_some, of_keyword_some, of_value_some, value_name, integer_given, negative_given, IsPositive, IsNegative}
 use Rattle.printed_texts.proofs.Depths.{depths-Dim, depths-Sym, depths-Const, zeros-Const}
 use Rattle.printed_texts.proofs.Places.{Placed, placed_unary, placed_number, placed_negative, parens}
-use Rattle.printed_texts.proofs.States.{params, param_number, symbol_none, Numbered, number_of_some, numbered_behind, Appeared, appeared, Grown, grown_same, grown_counting, grown_then, numbered_dims, numbered_syms, first_numbered, printed_leaves, moved, Room, moved_counting, not_full, moved_not_full}
+use Rattle.printed_texts.proofs.States.{params, param_number, symbol_none, Numbered, number_of_some, numbered_behind, Appeared, appeared, Grown, grown_same, grown_counting, grown_then, numbered_dims, numbered_syms, first_numbered, printed_leaves, moved, Room, Fixed, fixed_counting, moved_counting, not_full, moved_not_full}
 
 -- an expression is spelled again in each place, in the printed spelling that ends with a state
 abbrev pub Again : Leaves → ℕ → State → State → Expr × State → Type 0
@@ -33,12 +33,13 @@ Again l d final s p = Placed l (texts (printed_leaves l final) p.0) (depths p.0)
 -- a part of a given text: the state grows, and the part is spelled again
 pub record Told (l : Leaves) (s : State) (p : Expr × State) : Type 0 where
   pub grown : Grown s p.1
-  pub placed : (d : ℕ) (final : State) → Room d final → Grown p.1 final → Again l d final s p
+  pub fixed : Fixed l s p.1
+  pub placed : (d : ℕ) (final : State) → Room l d final → Grown p.1 final → Again l d final s p
 
 -- ---- limits
 
 -- where an operand stood in the given text, there is room for one in the printed spelling
-room_left : (l : Leaves) (d : ℕ) (s t final : State) → is_full s ≡ false → s.total + 1 ≤ t.total → Room d final → Grown t final → is_full (moved l d s) ≡ false
+room_left : (l : Leaves) (d : ℕ) (s t final : State) → is_full s ≡ false → s.total + 1 ≤ t.total → Room l d final → Grown t final → is_full (moved l d s) ≡ false
 room_left l d s t final h b room g = let i = not_full s h in moved_not_full l d s i.0 (omega (arith, b, room.total, g.total))
 
 open_limit : {A : Type 0} (full : Bool) (p : Tok → Option A) (q : Piece) (line column : ℕ) → full ≡ false → limited full p (tok q line column) ≡ p (tok q line column)
@@ -80,6 +81,7 @@ one_more n = omega arith
 number_told : (l : Leaves) (s : State) (n : ℕ) → n ≤ 9223372036854775807 → is_full s ≡ false → Told l s (e.Const (pos n), counting s)
 number_told l s n h f = record {
   grown = grown_counting s f;
+  fixed = fixed_counting l s;
   placed = λ d final room g. const_again l d final s (pos n) (placed_number l (moved l d s) _ n (number_again l d s n h (room_left l d s (counting s) final f (one_more s.total) room g)));
 }
 
@@ -87,6 +89,7 @@ negative_told : (l : Leaves) (s : State) (n : ℕ) → n ≤ 9223372036854775808
 negative_told l s zero h f = number_told l s 0 (omega arith) f
 negative_told l s (suc n) h f = record {
   grown = grown_counting s f;
+  fixed = fixed_counting l s;
   placed = λ d final room g. const_again l d final s (negsuc n) (placed_negative l (moved l d s) _ n (omega (arith, h)) (negative_again l d s (suc n) h (room_left l d s (counting s) final f (one_more s.total) room g)));
 }
 
@@ -162,14 +165,16 @@ sym_again d s i l h f =
 parameter_told : (s : State) (p : Expr × State) → is_full s ≡ false → IsParameter s p → Told leaves.Parameters s p
 parameter_told s p f (IsDim i q b) = subst (Told leaves.Parameters s) (sym q) (record {
   grown = grown_counting s f;
+  fixed = (refl, refl);
   placed = λ d final room g.
-    let n : i < 2 ^ 64 = omega (arith, b, room.dims, ap (λ (x : List Name). length x) g.dims_are, length-append s.dims g.dims) in
+    let n : i < 2 ^ 64 = omega (arith, b, room.few.0, ap (λ (x : List Name). length x) g.dims_are, length-append s.dims g.dims) in
     leaf_dim leaves.Parameters d final s (counting s) i (placed_leaf leaves.Parameters (moved leaves.Parameters d s) (dim_again d s i b n (room_left leaves.Parameters d s (counting s) final f (one_more s.total) room g)) (λ r c. refl));
 })
 parameter_told s p f (IsSym i q b) = subst (Told leaves.Parameters s) (sym q) (record {
   grown = grown_counting s f;
+  fixed = (refl, refl);
   placed = λ d final room g.
-    let n : i < 2 ^ 64 = omega (arith, b, room.syms, ap (λ (x : List Name). length x) g.syms_are, length-append s.syms g.syms) in
+    let n : i < 2 ^ 64 = omega (arith, b, room.few.1, ap (λ (x : List Name). length x) g.syms_are, length-append s.syms g.syms) in
     leaf_sym leaves.Parameters d final s (counting s) i (placed_leaf leaves.Parameters (moved leaves.Parameters d s) (sym_again d s i b n (room_left leaves.Parameters d s (counting s) final f (one_more s.total) room g)) (λ r c. refl));
 })
 
@@ -210,6 +215,7 @@ dimension_told s w h f =
     let t : State = with_dims s (appears w s.dims).1 in
     record {
       grown = grown_dims s w f a;
+      fixed = tt;
       placed = λ d final room g.
         let n = first_numbered w final.dims final.syms (appears w s.dims).0 (numbered_dims w t final (appears w s.dims).0 g a.numbered) in
         let p : Prints true (37 ∷ w) (Leaf leaves.Values (moved leaves.Values d s)) (e.Dim (appears w s.dims).0, moved leaves.Values d t) = in_right (value_again d s w h (room_left leaves.Values d s t final f (one_more s.total) room g)) in
@@ -226,6 +232,7 @@ symbol_told s w h f =
     let t : State = with_syms s (appears w s.syms).1 in
     record {
       grown = grown_syms s w f a;
+      fixed = tt;
       placed = λ d final room g.
         let n = numbered_behind w final.dims final.syms (appears w s.syms).0 (numbered_syms w t final (appears w s.syms).0 g a.numbered) in
         let u = moved leaves.Values d s in

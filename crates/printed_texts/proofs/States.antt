@@ -177,11 +177,28 @@ abbrev pub moved : LeafKind → ℕ → State → State
 moved leaves.Parameters d s = record { operands = s.operands; total = s.total + d; dims = params 100 0 (length s.dims); syms = params 115 0 (length s.syms) }
 moved leaves.Values d s = record { operands = s.operands; total = s.total + d; dims = s.dims; syms = s.syms }
 
--- there is room for all operands, and numbers for all parameters
-pub record Room (d : ℕ) (final : State) : Type 0 where
+-- parameters that can be numbered
+abbrev pub Few : LeafKind → State → Type 0
+Few leaves.Parameters s = (length s.dims < 2 ^ 64) × (length s.syms < 2 ^ 64)
+Few leaves.Values s = Unit {0}
+
+-- there is room for all operands, and there are numbers for all parameters
+pub record Room (l : LeafKind) (d : ℕ) (final : State) : Type 0 where
   pub total : final.total + d ≤ 1048576
-  pub dims : length final.dims < 2 ^ 64
-  pub syms : length final.syms < 2 ^ 64
+  pub few : Few l final
+
+-- the parameters stay the same
+abbrev pub Fixed : LeafKind → State → State → Type 0
+Fixed leaves.Parameters s t = (t.dims ≡ s.dims) × (t.syms ≡ s.syms)
+Fixed leaves.Values s t = Unit {0}
+
+pub fixed_counting : (l : LeafKind) (s : State) → Fixed l s (counting s)
+fixed_counting leaves.Parameters s = (refl, refl)
+fixed_counting leaves.Values s = tt
+
+pub fixed_then : (l : LeafKind) (s t u : State) → Fixed l s t → Fixed l t u → Fixed l s u
+fixed_then leaves.Parameters s t u a b = (b.0 ∙ a.0, b.1 ∙ a.1)
+fixed_then leaves.Values s t u a b = tt
 
 same_state : (s t : State) → s.operands ≡ t.operands → s.total ≡ t.total → s.dims ≡ t.dims → s.syms ≡ t.syms → s ≡ t
 same_state s t a b c d =
