@@ -6,3 +6,4 @@ pub mod Places
 pub mod States
 pub mod Leaves
 pub mod Expressions
+pub mod Lists
