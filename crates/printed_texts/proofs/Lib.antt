@@ -7,3 +7,4 @@ pub mod States
 pub mod Leaves
 pub mod Expressions
 pub mod Lists
+pub mod Params
