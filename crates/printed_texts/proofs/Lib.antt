@@ -8,3 +8,4 @@ pub mod Leaves
 pub mod Expressions
 pub mod Lists
 pub mod Params
+pub mod Maps
