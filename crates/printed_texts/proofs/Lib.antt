@@ -9,3 +9,4 @@ pub mod Expressions
 pub mod Lists
 pub mod Params
 pub mod Maps
+pub mod Uses

@@ -134,3 +134,90 @@ map_told several total p f g h =
     let t = results_told several (over j.value total) r.value r.left gr r.first in
     let e : map_with j.value r.value ≡ p = sym r.second.1 ∙ sym i.second.second.1 in
     subst (λ (x : Map × ℕ). ToldMap x.0 total x.1) e (map_of j.value total r.value (params_told j.left j.value gp j.first) t)
+
+-- ---- rows
+
+pub record ToldSetRows (s : State) (b : List Constraint × State) : Type 0 where
+  pub grown : Grown s b.1
+  pub fixed : Fixed leaves.Parameters s b.1
+  pub again : (d : ℕ) → Room leaves.Parameters d b.1 → RowsNest b.0
+      → Prints false (codes "(" ++ (listed row_text b.0 ++ codes ")")) (Rows (moved leaves.Parameters d s)) (b.0, moved leaves.Parameters d b.1)
+
+rows_of : (s : State) (m b : List Constraint × State) → ToldRow ([], s) m → ToldRows m b → ToldSetRows s b
+unfolding listed
+rows_of s m b t r = record {
+  grown = grown_then s m.1 b.1 t.grown r.grown;
+  fixed = fixed_then leaves.Parameters s m.1 b.1 t.fixed r.fixed;
+  again = again;
+}
+  where
+    results : b.0 ≡ t.row ∷ r.items
+    results = r.items_are ∙ ap (λ l. l ++ r.items) t.row_is
+
+    again : (d : ℕ) → Room leaves.Parameters d b.1 → RowsNest b.0
+        → Prints false (codes "(" ++ (listed row_text b.0 ++ codes ")")) (Rows (moved leaves.Parameters d s)) (b.0, moved leaves.Parameters d b.1)
+    again d room n =
+        let q : RowsNest (t.row ∷ r.items) = subst RowsNest results n in
+        let x : Prints true (row_text t.row) (Row ([], moved leaves.Parameters d s)) (m.0, moved leaves.Parameters d m.1) = t.again d b.1 room r.grown q.0 q.1 in
+        let y : Prints true (more_text row_text r.items) (Many NextRow (m.0, moved leaves.Parameters d m.1)) (b.0, moved leaves.Parameters d b.1) = r.again d b.1 room (grown_same b.1) q.2 in
+        let e : row_text t.row ++ more_text row_text r.items ≡ listed row_text b.0 = ap (λ l. listed row_text l) (sym results) in
+        parens (prints_as (seq x (more_joins row_text r.items) y) e)
+
+pub set_rows_told : (s : State) (b : List Constraint × State) (f : List Tok) → Given f → Rows s f b → ToldSetRows s b
+set_rows_told s b f g h =
+    let i = h.second in
+    let j = i.first in
+    let g1 = given_left h.right i.left i.right i.parts (given_right f h.left h.right h.parts g) in
+    let gl = given_left i.left j.left j.right j.parts g1 in
+    let gr = given_right i.left j.left j.right j.parts g1 in
+    subst (ToldSetRows s) (sym i.second.second.1) (rows_of s j.value i.value (row_told ([], s) j.value j.left gl j.first) (rows_told j.value i.value j.right gr j.second))
+
+-- ---- sets
+
+-- a set, as it is printed before its operands
+abbrev pub set_head_text : Set → List ℕ
+set_head_text m = opening_text (codes "affine_set<") m.dims m.syms ++ rows_text m.rows
+
+-- a set of a given text, with the number of operands before it and behind it
+pub record ToldSet (m : Set) (total behind : ℕ) : Type 0 where
+  pub small : total ≤ 1048576 → behind ≤ 1048576
+  pub again : (d : ℕ) → behind + d ≤ 1048576 → RowsNest m.rows → Prints true (set_head_text m) (Set0 (total + d)) (m, behind + d)
+
+set_is : (dims syms : ℕ) (d : ℕ) (b : List Constraint × State) → ◌≡◌ {A = Set × ℕ} (set_with (scope_of dims syms) (b.0, moved leaves.Parameters d b.1)) (record { dims = dims; syms = syms; rows = b.0 }, b.1.total + d)
+set_is dims syms d b =
+    let e : ◌≡◌ {A = Set} (record { dims = length (params 100 0 dims); syms = length (params 115 0 syms); rows = b.0 }) (record { dims = dims; syms = syms; rows = b.0 }) = cc (length_params 100 0 dims, length_params 115 0 syms) in
+    ap (λ (m : Set). let o : Set × ℕ = (m, b.1.total + d) in o) e
+
+set_of : (names : Scope) (total : ℕ) (b : List Constraint × State) → FewNames names → ToldSetRows (over names total) b → ToldSet (set_with names b).0 total (set_with names b).1
+unfolding opening_text rows_text parameters_text
+set_of names total b few t = record { small = λ h. t.grown.kept h; again = again }
+  where
+    again : (d : ℕ) → b.1.total + d ≤ 1048576 → RowsNest b.0 → Prints true (set_head_text (set_with names b).0) (Set0 (total + d)) ((set_with names b).0, b.1.total + d)
+    again d room n =
+        let nd = length names.dims in
+        let ns = length names.syms in
+        let fd : length b.1.dims < 2 ^ 64 = subst (λ l. length l < 2 ^ 64) (sym t.fixed.0) few.dims in
+        let fs : length b.1.syms < 2 ^ 64 = subst (λ l. length l < 2 ^ 64) (sym t.fixed.1) few.syms in
+        let r = t.again d (record { total = room; few = (fd, fs) }) n in
+        let a : Prints false (codes " : ") (One (sign 58)) tt = blank_before (blank_behind colon_sign) in
+        let p = params_again nd ns few.dims few.syms in
+        let inner = seq p tt (seq a tt (giving (set_with (scope_of nd ns)) r)) in
+        let whole : Prints true _ (Set0 (total + d)) (set_with (scope_of nd ns) (b.0, moved leaves.Parameters d b.1)) = seq (keyword (codes "affine_set") refl refl) (λ s c. refl) (seq less_sign (λ s c. refl) (seq inner tt (giving (λ _. set_with (scope_of nd ns) (b.0, moved leaves.Parameters d b.1)) greater_sign))) in
+        let moved_text = prints_as {b = set_head_text (set_with names b).0} whole (simp (append_assoc) refl) in
+        subst (λ x. Prints true (set_head_text (set_with names b).0) (Set0 (total + d)) x) (set_is nd ns d b) moved_text
+
+pub set_told : (total : ℕ) (p : Set × ℕ) (f : List Tok) → Given f → Set0 total f p → ToldSet p.0 total p.1
+set_told total p f g h =
+    let i = h.second.second in
+    let j = i.first in
+    let a = j.second in
+    let r = a.second in
+    let g1 = given_right f h.left h.right h.parts g in
+    let g2 = given_right h.right h.second.left h.second.right h.second.parts g1 in
+    let g3 = given_left h.second.right i.left i.right i.parts g2 in
+    let gp = given_left i.left j.left j.right j.parts g3 in
+    let ga = given_right i.left j.left j.right j.parts g3 in
+    let gr = given_left a.right r.left r.right r.parts (given_right j.right a.left a.right a.parts ga) in
+    let t = set_rows_told (over j.value total) r.value r.left gr r.first in
+    let e : set_with j.value r.value ≡ p = sym r.second.1 ∙ sym i.second.second.1 in
+    subst (λ (x : Set × ℕ). ToldSet x.0 total x.1) e (set_of j.value total r.value (params_told j.left j.value gp j.first) t)
