@@ -10,3 +10,4 @@ pub mod Lists
 pub mod Params
 pub mod Maps
 pub mod Uses
+pub mod Types

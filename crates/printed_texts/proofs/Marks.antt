@@ -19,7 +19,7 @@ use Rattle.printed_texts.proofs.Pieces.{tok, ends, is_word_first, is_word_byte, 
 
 -- ---- what ends a token
 
-ends_id : (r : List ℕ) → ends r ≡ true → is_id_byte (slice_index r 0) ≡ false
+pub ends_id : (r : List ℕ) → ends r ≡ true → is_id_byte (slice_index r 0) ≡ false
 ends_id r h = by_test (is_id_byte (slice_index r 0)) (and_left (not (is_id_byte (slice_index r 0))) _ h)
   where
     by_test : (v : Bool) → not v ≡ true → v ≡ false
@@ -33,7 +33,7 @@ ends_equals r h = by_test (slice_index r 0 == 61) (and_right (not (is_id_byte (s
     by_test true e = absurd (true_no (sym e))
     by_test false e = refl
 
-id_word : (b : ℕ) → is_id_byte b ≡ false → is_word_byte b ≡ false
+pub id_word : (b : ℕ) → is_id_byte b ≡ false → is_word_byte b ≡ false
 id_word b h = grind (arith, nat_tests)
 
 id_digit : (b : ℕ) → is_id_byte b ≡ false → is_ascii_digit b ≡ false
