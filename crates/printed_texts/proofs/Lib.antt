@@ -11,3 +11,5 @@ pub mod Params
 pub mod Maps
 pub mod Uses
 pub mod Types
+pub mod Unlined
+pub mod Bounds
