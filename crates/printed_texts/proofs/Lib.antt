@@ -13,3 +13,4 @@ pub mod Uses
 pub mod Types
 pub mod Unlined
 pub mod Bounds
+pub mod Plain
