@@ -164,3 +164,187 @@ module _ (r : Name) (total : ℕ) where
     small = λ h. h;
     again = λ h line n. seq alloc_word (λ r c. refl) (seq open_paren tt (seq close_paren tt (typed_again (λ ty. let x : What × ℕ = (what.Alloc r ty, total) in x) ty y)));
   }
+
+-- a value of a given text
+value_of : (f : List Tok) (n : Name) → Given f → One value f n → IsWritten n
+value_of f n g h = value_given h.token n (given_one f h.token h.alone g) h.accepted
+
+-- a type behind its colon
+typed_told : {A : Type 0} (make : MemrefType → A) (x : A) (f : List Tok) → Typed make f x → (ty : MemrefType) × (TypeTold ty × (x ≡ make ty))
+typed_told make x f h = (h.second.value, (memref_told h.second.value h.second.left h.second.first, h.second.second.1))
+
+abbrev Defines : Name → ℕ → What × ℕ → Type 0
+Defines r total p = ToldDefinition r p.0 total p.1
+
+pub definition_told : (aliases : List Alias) (total : ℕ) (r : Name) (d : Definition) (p : What × ℕ) (f : List Tok) → AliasesTold aliases → Given f → Defined aliases total r d f p → ToldDefinition r p.0 total p.1
+definition_told aliases total r (definition.Value c) p f a g h =
+    subst (Defines r total) (sym h.second.1) (value_definition r total c h.value.0 h.value.1 (use_told aliases true total h.value h.left a (given_left f h.left h.right h.parts g) h.first))
+definition_told aliases total r definition.Load p f a g h =
+    let i = h.second in
+    let gr = given_right f h.left h.right h.parts g in
+    let t = typed_told (λ ty. let x : What × ℕ = (what.Load r h.value i.value.0 ty, i.value.1) in x) p i.right i.second in
+    subst (Defines r total) (sym t.1.1) (load_definition r total h.value i.value.0 i.value.1 t.0 (value_of h.left h.value (given_left f h.left h.right h.parts g) h.first) (subscripts_told total i.value i.left (given_left h.right i.left i.right i.parts gr) i.first) t.1.0)
+definition_told aliases total r definition.RawLoad p f a g h =
+    let i = h.second in
+    let gr = given_right f h.left h.right h.parts g in
+    let t = typed_told (λ ty. let x : What × ℕ = (what.RawLoad r h.value i.value ty, total) in x) p i.right i.second in
+    subst (Defines r total) (sym t.1.1) (raw_load_definition r total h.value i.value t.0 (value_of h.left h.value (given_left f h.left h.right h.parts g) h.first) (brackets_told i.value i.left (given_left h.right i.left i.right i.parts gr) i.first) t.1.0)
+definition_told aliases total r definition.Constant p f a g h =
+    let i = h.second.second in
+    subst (Defines r total) (sym i.second.1) (constant_definition r total h.value i.value (signed_told h.value h.left h.first))
+definition_told aliases total r (definition.Binary o) p f a g h =
+    let i = h.second in
+    let j = i.second in
+    let k = j.second.second in
+    let g1 = given_right f h.left h.right h.parts g in
+    let g2 = given_right h.right i.left i.right i.parts g1 in
+    subst (Defines r total) (sym k.second.1) (binary_definition r total o h.value j.value k.value (value_of h.left h.value (given_left f h.left h.right h.parts g) h.first) (value_of j.left j.value (given_left i.right j.left j.right j.parts g2) j.first))
+definition_told aliases total r (definition.Cast c) p f a g h =
+    let j = h.second.second in
+    let k = j.second.second in
+    subst (Defines r total) (sym k.second.1) (cast_definition r total c h.value j.value k.value (value_of h.left h.value (given_left f h.left h.right h.parts g) h.first))
+definition_told aliases total r definition.Alloc p f a g h =
+    let i = h.second in
+    let t = typed_told (λ ty. let x : What × ℕ = (what.Alloc r ty, total) in x) p i.right i.second in
+    subst (Defines r total) (sym t.1.1) (alloc_definition r total t.0 t.1.0)
+
+-- ---- statements without a result
+
+-- a statement of a given text that has no region
+pub record ToldAction (R : Regions) (w : What) (total behind : ℕ) : Type 0 where
+  pub text : List ℕ
+  pub text_is : (margin : List ℕ) → statement_text margin w ≡ text
+  pub small : total ≤ 1048576 → behind ≤ 1048576
+  pub again : total ≤ 1048576 → (line : ℕ) → StatementsNest (put_what w line NoStatement) → Prints true text (Both (One action_word) (λ a. Acted R [] total a)) (w, behind)
+
+store_word : Prints false (codes "affine.store ") (One action_word) action.Store
+unfolding action_of
+store_word = blank_behind (word_piece (codes "affine.store") action_word action.Store refl (λ line column. refl))
+
+raw_store_word : Prints false (codes "memref.store ") (One action_word) action.RawStore
+unfolding action_of
+raw_store_word = blank_behind (word_piece (codes "memref.store") action_word action.RawStore refl (λ line column. refl))
+
+dealloc_word : Prints false (codes "memref.dealloc ") (One action_word) action.Dealloc
+unfolding action_of
+dealloc_word = blank_behind (word_piece (codes "memref.dealloc") action_word action.Dealloc refl (λ line column. refl))
+
+start_word : Prints false (codes "affine.dma_start ") (One action_word) action.Start
+unfolding action_of
+start_word = blank_behind (word_piece (codes "affine.dma_start") action_word action.Start refl (λ line column. refl))
+
+wait_word : Prints false (codes "affine.dma_wait ") (One action_word) action.Wait
+unfolding action_of
+wait_word = blank_behind (word_piece (codes "affine.dma_wait") action_word action.Wait refl (λ line column. refl))
+
+pub for_word : Prints false (codes "affine.for ") (One action_word) action.For
+unfolding action_of
+for_word = blank_behind (word_piece (codes "affine.for") action_word action.For refl (λ line column. refl))
+
+pub if_word : Prints false (codes "affine.if ") (One action_word) action.If
+unfolding action_of
+if_word = blank_behind (word_piece (codes "affine.if") action_word action.If refl (λ line column. refl))
+
+-- a memref with its subscripts
+record ToldPart (m : Name) (at : Access) (total behind : ℕ) : Type 0 where
+  name : IsWritten m
+  subscripts : ToldSubscripts at total behind
+
+part_told : (total : ℕ) (p : Name × (Access × ℕ)) (f : List Tok) → Given f → Part total f p → ToldPart p.0 p.1.0 total p.1.1
+part_told total p f g h =
+    let i = h.second in
+    subst (λ (x : Name × (Access × ℕ)). ToldPart x.0 x.1.0 total x.1.1) (sym i.second.1) (record {
+      name = value_of h.left h.value (given_left f h.left h.right h.parts g) h.first;
+      subscripts = subscripts_told total i.value i.left (given_left h.right i.left i.right i.parts (given_right f h.left h.right h.parts g)) i.first;
+    })
+
+part_again : (m : Name) (at : Access) (total behind : ℕ) → ToldPart m at total behind → total ≤ 1048576 → UseNests at → Prints false (name_text m ++ subscripts_text at) (Part total) (m, (at, behind))
+unfolding subscripts_text
+part_again m at total behind t h n = seq (value_prints m t.name) (λ r c. refl) (giving (λ (p : Access × ℕ). let x : Name × (Access × ℕ) = (m, p) in x) (t.subscripts.again (t.subscripts.small h) n))
+
+-- the stride and the chunk
+abbrev StrideWritten : Option (Name × Name) → Type 0
+StrideWritten None = Unit {0}
+StrideWritten (Some p) = IsWritten p.0 × IsWritten p.1
+
+stride_told : (s : Option (Name × Name)) (f : List Tok) → Given f → Optional Stride None f s → StrideWritten s
+stride_told s f g (inr h) = subst StrideWritten (sym h.1) tt
+stride_told s f g (inl h) =
+    let i = h.second in
+    let j = i.second.second in
+    let g1 = given_right f h.left h.right h.parts g in
+    let g2 = given_right h.right i.left i.right i.parts g1 in
+    let g3 = given_right i.right i.second.left i.second.right i.second.parts g2 in
+    subst StrideWritten (sym j.second.1) (value_of i.left i.value (given_left h.right i.left i.right i.parts g1) i.first, value_of j.left j.value (given_left i.second.right j.left j.right j.parts g3) j.first)
+
+stride_again : (s : Option (Name × Name)) → StrideWritten s → Prints true (stride_text s) (Optional Stride None) s
+unfolding stride_text pair_text
+stride_again None h = in_right (nothing None)
+stride_again (Some (stride, chunk)) h = in_left (seq comma tt (seq (value_prints stride h.0) (λ r c. refl) (seq comma tt (giving (λ chunk. Some (stride, chunk)) (value_prints chunk h.1)))))
+
+stride_joins : (s : Option (Name × Name)) (r : List ℕ) → ends r ≡ true → ends (stride_text s ++ r) ≡ true
+unfolding stride_text
+stride_joins None r h = h
+stride_joins (Some p) r h = refl
+
+-- the pieces of a transfer, one behind the other
+start_pieces : (w k o a aa b bb c cd n s t u v : List ℕ)
+    → (((w ++ a) ++ aa) ++ (k ++ ((b ++ bb) ++ (k ++ (c ++ cd))))) ++ (k ++ (n ++ (s ++ (o ++ (t ++ ((k ++ u) ++ ((k ++ v) ++ []))))))) ≡ w ++ ((a ++ aa) ++ (k ++ ((b ++ bb) ++ (k ++ ((c ++ cd) ++ (k ++ (n ++ (s ++ (o ++ (t ++ (k ++ (u ++ (k ++ v)))))))))))))
+start_pieces w k o a aa b bb c cd n s t u v = simp (append_assoc, append-nil) refl
+
+module _ (R : Regions) (total : ℕ) where
+  store_action : (x m : Name) (at : Access) (behind : ℕ) (ty : MemrefType) → IsWritten x → IsWritten m → ToldSubscripts at total behind → TypeTold ty → ToldAction R (what.Store x m at ty) total behind
+  unfolding store_text named_text place_text subscripts_text
+  store_action x m at behind ty v w t y = record {
+    text = codes "affine.store " ++ (name_text x ++ (codes ", " ++ (name_text m ++ (subscripts_text at ++ typed_text ty))));
+    text_is = λ margin. statement-Store margin x m at ty ∙ simp append_assoc refl;
+    small = t.small;
+    again = λ h line n.
+      let k = subst StatementsNest (put-Store line NoStatement x m at ty) n in
+      seq store_word tt (seq (value_prints x v) (λ r c. refl) (seq comma tt (seq (value_prints m w) (λ r c. refl) (seq (t.again (t.small h) k.0) tt (typed_again (λ ty. let p : What × ℕ = (what.Store x m at ty, behind) in p) ty y)))));
+  }
+
+  raw_store_action : (x m : Name) (vs : List Name) (ty : MemrefType) → IsWritten x → IsWritten m → AllWritten vs → TypeTold ty → ToldAction R (what.RawStore x m vs ty) total total
+  unfolding raw_store_text named_text raw_place_text
+  raw_store_action x m vs ty v w a y = record {
+    text = codes "memref.store " ++ (name_text x ++ (codes ", " ++ (name_text m ++ ((codes "[" ++ (names_text vs ++ codes "]")) ++ typed_text ty))));
+    text_is = λ margin. statement-RawStore margin x m vs ty ∙ simp append_assoc refl;
+    small = λ h. h;
+    again = λ h line n. seq raw_store_word tt (seq (value_prints x v) (λ r c. refl) (seq comma tt (seq (value_prints m w) (λ r c. refl) (seq (brackets_again vs a) tt (typed_again (λ ty. let p : What × ℕ = (what.RawStore x m vs ty, total) in p) ty y)))));
+  }
+
+  dealloc_action : (m : Name) (ty : MemrefType) → IsWritten m → TypeTold ty → ToldAction R (what.Dealloc m ty) total total
+  unfolding dealloc_text named_text typed_text
+  dealloc_action m ty w y = record {
+    text = codes "memref.dealloc " ++ (name_text m ++ typed_text ty);
+    text_is = λ margin. statement-Dealloc margin m ty ∙ simp append_assoc refl;
+    small = λ h. h;
+    again = λ h line n. seq dealloc_word tt (seq (value_prints m w) (λ r c. refl) (typed_again (λ ty. let p : What × ℕ = (what.Dealloc m ty, total) in p) ty y));
+  }
+
+  wait_action : (m : Name) (at : Access) (behind : ℕ) (n : Name) (ty : MemrefType) → ToldPart m at total behind → IsWritten n → TypeTold ty → ToldAction R (what.Wait m at n ty) total behind
+  unfolding wait_text first_place_text named_text typed_text
+  wait_action m at behind n ty t w y = record {
+    text = codes "affine.dma_wait " ++ ((name_text m ++ subscripts_text at) ++ (codes ", " ++ (name_text n ++ typed_text ty)));
+    text_is = λ margin. statement-Wait margin m at n ty ∙ simp append_assoc refl;
+    small = t.subscripts.small;
+    again = λ h line q.
+      let k = subst StatementsNest (put-Wait line NoStatement m at n ty) q in
+      seq wait_word tt (seq (part_again m at total behind t h k.0) tt (seq comma tt (seq (value_prints n w) (λ r c. refl) (typed_again (λ ty. let p : What × ℕ = (what.Wait m at n ty, behind) in p) ty y))));
+  }
+
+  start_action : (a : Name) (aa : Access) (b : Name) (bb : Access) (c : Name) (cc' : Access) (n : Name) (s : Option (Name × Name)) (t u v : MemrefType) (n1 n2 n3 : ℕ)
+      → ToldPart a aa total n1 → ToldPart b bb n1 n2 → ToldPart c cc' n2 n3 → IsWritten n → StrideWritten s → TypeTold t → TypeTold u → TypeTold v → ToldAction R (what.Start a aa b bb c cc' n s (t ∷ u ∷ v ∷ [])) total n3
+  unfolding ends_text first_place_text named_text pair_text place_text amount_text listed
+  start_action a aa b bb c cc' n s t u v n1 n2 n3 pa pb pc wn ws wt wu wv = record {
+    text = codes "affine.dma_start " ++ ((name_text a ++ subscripts_text aa) ++ (codes ", " ++ ((name_text b ++ subscripts_text bb) ++ (codes ", " ++ ((name_text c ++ subscripts_text cc') ++ (codes ", " ++ (name_text n ++ (stride_text s ++ (codes " : " ++ (memref_text t ++ (codes ", " ++ (memref_text u ++ (codes ", " ++ memref_text v)))))))))))));
+    text_is = λ margin. statement-Start margin a aa b bb c cc' n s (t ∷ u ∷ v ∷ []) ∙ start_pieces (codes "affine.dma_start ") (codes ", ") (codes " : ") (name_text a) (subscripts_text aa) (name_text b) (subscripts_text bb) (name_text c) (subscripts_text cc') (name_text n) (stride_text s) (memref_text t) (memref_text u) (memref_text v);
+    small = λ h. pc.subscripts.small (pb.subscripts.small (pa.subscripts.small h));
+    again = λ h line q.
+      let k = subst StatementsNest (put-Start line NoStatement a aa b bb c cc' n s (t ∷ u ∷ v ∷ [])) q in
+      let h1 = pa.subscripts.small h in
+      let h2 = pb.subscripts.small h1 in
+      let types = seq (memref_again t wt) (λ r c. refl) (seq comma tt (seq (memref_again u wu) (λ r c. refl) (seq comma tt (giving (λ v. let p : What × ℕ = (what.Start a aa b bb c cc' n s (t ∷ u ∷ v ∷ []), n3) in p) (memref_again v wv))))) in
+      let amount = seq (value_prints n wn) (λ r x. subst (λ l. ends l ≡ true) (sym (append_assoc (stride_text s) (codes " : " ++ (memref_text t ++ (codes ", " ++ (memref_text u ++ (codes ", " ++ memref_text v))))) r)) (stride_joins s _ refl)) (seq (stride_again s ws) (λ r x. refl) (seq colon tt types)) in
+      seq start_word tt (seq (part_again a aa total n1 pa h k.0.0) tt (seq comma tt (seq (part_again b bb n1 n2 pb h1 k.0.1) tt (seq comma tt (seq (part_again c cc' n2 n3 pc h2 k.0.2) tt (seq comma tt amount))))));
+  }
