@@ -14,3 +14,4 @@ pub mod Types
 pub mod Unlined
 pub mod Bounds
 pub mod Plain
+pub mod Blocks

@@ -348,3 +348,58 @@ module _ (R : Regions) (total : ℕ) where
       let amount = seq (value_prints n wn) (λ r x. subst (λ l. ends l ≡ true) (sym (append_assoc (stride_text s) (codes " : " ++ (memref_text t ++ (codes ", " ++ (memref_text u ++ (codes ", " ++ memref_text v))))) r)) (stride_joins s _ refl)) (seq (stride_again s ws) (λ r x. refl) (seq colon tt types)) in
       seq start_word tt (seq (part_again a aa total n1 pa h k.0.0) tt (seq comma tt (seq (part_again b bb n1 n2 pb h1 k.0.1) tt (seq comma tt (seq (part_again c cc' n2 n3 pc h2 k.0.2) tt (seq comma tt amount))))));
   }
+
+abbrev Acts : Regions → ℕ → What × ℕ → Type 0
+Acts R total p = ToldAction R p.0 total p.1
+
+-- a statement of these is told, whatever the regions of the printed spelling are
+pub store_told : (S R : Regions) (aliases : List Alias) (total : ℕ) (p : What × ℕ) (f : List Tok) → Given f → Acted S aliases total action.Store f p → ToldAction R p.0 total p.1
+store_told S R aliases total p f g h =
+    let i = h.second.second in
+    let j = i.second in
+    let g1 = given_right h.right h.second.left h.second.right h.second.parts (given_right f h.left h.right h.parts g) in
+    let g2 = given_right h.second.right i.left i.right i.parts g1 in
+    let t = typed_told (λ ty. let x : What × ℕ = (what.Store h.value i.value j.value.0 ty, j.value.1) in x) p j.right j.second in
+    subst (Acts R total) (sym t.1.1) (store_action R total h.value i.value j.value.0 j.value.1 t.0 (value_of h.left h.value (given_left f h.left h.right h.parts g) h.first) (value_of i.left i.value (given_left h.second.right i.left i.right i.parts g1) i.first) (subscripts_told total j.value j.left (given_left i.right j.left j.right j.parts g2) j.first) t.1.0)
+
+pub raw_store_told : (S R : Regions) (aliases : List Alias) (total : ℕ) (p : What × ℕ) (f : List Tok) → Given f → Acted S aliases total action.RawStore f p → ToldAction R p.0 total p.1
+raw_store_told S R aliases total p f g h =
+    let i = h.second.second in
+    let j = i.second in
+    let g1 = given_right h.right h.second.left h.second.right h.second.parts (given_right f h.left h.right h.parts g) in
+    let g2 = given_right h.second.right i.left i.right i.parts g1 in
+    let t = typed_told (λ ty. let x : What × ℕ = (what.RawStore h.value i.value j.value ty, total) in x) p j.right j.second in
+    subst (Acts R total) (sym t.1.1) (raw_store_action R total h.value i.value j.value t.0 (value_of h.left h.value (given_left f h.left h.right h.parts g) h.first) (value_of i.left i.value (given_left h.second.right i.left i.right i.parts g1) i.first) (brackets_told j.value j.left (given_left i.right j.left j.right j.parts g2) j.first) t.1.0)
+
+pub dealloc_told : (S R : Regions) (aliases : List Alias) (total : ℕ) (p : What × ℕ) (f : List Tok) → Given f → Acted S aliases total action.Dealloc f p → ToldAction R p.0 total p.1
+dealloc_told S R aliases total p f g h =
+    let t = typed_told (λ ty. let x : What × ℕ = (what.Dealloc h.value ty, total) in x) p h.right h.second in
+    subst (Acts R total) (sym t.1.1) (dealloc_action R total h.value t.0 (value_of h.left h.value (given_left f h.left h.right h.parts g) h.first) t.1.0)
+
+pub wait_told : (S R : Regions) (aliases : List Alias) (total : ℕ) (p : What × ℕ) (f : List Tok) → Given f → Acted S aliases total action.Wait f p → ToldAction R p.0 total p.1
+wait_told S R aliases total p f g h =
+    let i = h.second.second in
+    let g1 = given_right h.right h.second.left h.second.right h.second.parts (given_right f h.left h.right h.parts g) in
+    let t = typed_told (λ ty. let x : What × ℕ = (what.Wait h.value.0 h.value.1.0 i.value ty, h.value.1.1) in x) p i.right i.second in
+    subst (Acts R total) (sym t.1.1) (wait_action R total h.value.0 h.value.1.0 h.value.1.1 i.value t.0 (part_told total h.value h.left (given_left f h.left h.right h.parts g) h.first) (value_of i.left i.value (given_left h.second.right i.left i.right i.parts g1) i.first) t.1.0)
+
+pub start_told : (S R : Regions) (aliases : List Alias) (total : ℕ) (p : What × ℕ) (f : List Tok) → Given f → Acted S aliases total action.Start f p → ToldAction R p.0 total p.1
+start_told S R aliases total p f g h =
+    let b = h.second.second in
+    let c = b.second.second in
+    let n = c.second.second in
+    let s = n.second in
+    let t = s.second.second in
+    let u = t.second.second in
+    let v = u.second.second in
+    let g1 = given_right h.right h.second.left h.second.right h.second.parts (given_right f h.left h.right h.parts g) in
+    let g2 = given_right b.right b.second.left b.second.right b.second.parts (given_right h.second.right b.left b.right b.parts g1) in
+    let g3 = given_right c.right c.second.left c.second.right c.second.parts (given_right b.second.right c.left c.right c.parts g2) in
+    let g4 = given_right c.second.right n.left n.right n.parts g3 in
+    subst (Acts R total) (sym v.second.1) (start_action R total h.value.0 h.value.1.0 b.value.0 b.value.1.0 c.value.0 c.value.1.0 n.value s.value t.value u.value v.value h.value.1.1 b.value.1.1 c.value.1.1
+    (part_told total h.value h.left (given_left f h.left h.right h.parts g) h.first)
+    (part_told h.value.1.1 b.value b.left (given_left h.second.right b.left b.right b.parts g1) b.first)
+    (part_told b.value.1.1 c.value c.left (given_left b.second.right c.left c.right c.parts g2) c.first)
+    (value_of n.left n.value (given_left c.second.right n.left n.right n.parts g3) n.first)
+    (stride_told s.value s.left (given_left n.right s.left s.right s.parts g4) s.first)
+    (memref_told t.value t.left t.first) (memref_told u.value u.left u.first) (memref_told v.value v.left v.first))
