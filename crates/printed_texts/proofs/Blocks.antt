@@ -62,6 +62,9 @@ writes_as {o = o} {L = L} {Q = Q} p e = subst (λ b. Writes o b L Q) e p
 pub writes_blank : {A : Type 0} {o : Bool} {b : List ℕ} {L : Lang Tok A} {Q : A → Type 0} → Writes o b L Q → Writes o (32 ∷ b) L Q
 writes_blank {b = b} p = record { pieces = p.pieces; cut = λ rest qs c h. cut_blank (after_word []) 32 (b ++ rest) (p.pieces ++ qs) refl (p.cut rest qs c h); spelled = p.spelled }
 
+pub loosen_writes : {A : Type 0} {b : List ℕ} {L : Lang Tok A} {Q : A → Type 0} → Writes false b L Q → Writes true b L Q
+loosen_writes p = record { pieces = p.pieces; cut = λ rest qs c h. p.cut rest qs tt h; spelled = p.spelled }
+
 -- ---- margins
 
 abbrev pub AllWhite : List ℕ → Type 0
@@ -266,3 +269,121 @@ region_of left margin ss total after white p =
     let inner = lines_then (Region [] left) (deeper margin) ss total after (λ p _. p) p (closing margin white) in
     let whole = writes_seq opening tt inner in
     record { pieces = whole.pieces; cut = whole.cut; spelled = λ us a. let y = whole.spelled us a in (y.0, ((subst (λ (q : List Stmt × ℕ). SameStatements ss q.0) (sym y.1.0.1.1) y.1.0.1.0, ap (λ (q : List Stmt × ℕ). q.1) y.1.0.1.1), y.1.1)) }
+
+-- ---- loops
+
+-- the pieces of a loop, one behind the other
+for_pieces : (w v k b s o l m c : List ℕ) → ((w ++ v) ++ (k ++ (b ++ (s ++ (32 ∷ o))))) ++ (l ++ (m ++ c)) ≡ w ++ (v ++ (k ++ ((b ++ s) ++ (32 ∷ (o ++ (l ++ (m ++ c)))))))
+for_pieces w v k b s o l m c = simp append_assoc refl
+
+loop_same : (v : Name) (t : Turns) (body stmts : List Stmt) → SameStatements body stmts → unlined_what (what.For v t.lower t.upper t.step body) ≡ unlined_what (what.For v t.lower t.upper t.step stmts)
+unfolding unlined_what
+loop_same v t body stmts h =
+    ap unlined (put-For 0 NoStatement v t.lower t.upper t.step body) ∙ ap (λ n. Loop 0 v t.lower t.upper t.step n NoStatement) h ∙ sym (ap unlined (put-For 0 NoStatement v t.lower t.upper t.step stmts))
+
+loop_told : (left : ℕ) (v : Name) (t : Turns) (body : List Stmt) (total after : ℕ) → IsWritten v → ToldTurns t total → ToldRegion (Region [] left) body t.total after → ToldStatement (Region [] left) (what.For v t.lower t.upper t.step body) total after
+unfolding for_text named_text block_text
+loop_told left v t body total after n turns region = record { small = λ h. region.small (turns.small h); again = again }
+  where
+    w : What
+    w = what.For v t.lower t.upper t.step body
+
+    make : List Stmt × ℕ → What × ℕ
+    make p = (what.For v t.lower t.upper t.step p.0, p.1)
+
+    again : (margin : List ℕ) → AllWhite margin → total ≤ 1048576 → (line : ℕ) → StatementsNest (put_what w line NoStatement) → StatementPrints (Region [] left) margin w total after
+    again margin white h line k =
+        let m = subst StatementsNest (put-For line NoStatement v t.lower t.upper t.step body) k in
+        let inner : Writes false (region_text margin body) (Giving (Region [] left t.total) (λ (p : List Stmt × ℕ). let x : What × ℕ = (what.For v t.lower t.upper t.step p.0, p.1) in x)) (ActsLike w after) =
+              writes_giving (ActsLike w after) (λ (p : List Stmt × ℕ). let x : What × ℕ = (what.For v t.lower t.upper t.step p.0, p.1) in x) (λ x q. (loop_same v t body x.0 q.0, q.1)) (region.again margin white (turns.small h) m.2) in
+        let whole : Writes false (codes "affine.for " ++ (name_text v ++ (codes " = " ++ ((bounds_text t.lower t.upper ++ step_text t.step) ++ (32 ∷ region_text margin body))))) (Both (One action_word) (λ a. Acted (Region [] left) [] total a)) (ActsLike w after) =
+              writes_seq for_word tt (writes_seq (value_prints v n) (λ r c. refl) (writes_seq (blank_before (blank_behind equals_sign)) tt (writes_seq (turns.again h m.0 m.1) (λ r c. refl) (writes_blank inner)))) in
+        let e = for_pieces (codes "affine.for ") (name_text v) (codes " = ") (bounds_text t.lower t.upper) (step_text t.step) (codes "{\n") (lines (deeper margin) (nest body)) margin (codes "}") in
+        acts_prints (Region [] left) margin w total after (loosen_writes (writes_as whole (sym e ∙ sym (statement-For margin v t.lower t.upper t.step body))))
+
+-- ---- conditions
+
+if_pieces : (w h i x o l m c : List ℕ) → (w ++ ((h ++ (i ++ x)) ++ (32 ∷ o))) ++ (l ++ (m ++ c)) ≡ w ++ ((h ++ i) ++ (x ++ (32 ∷ (o ++ (l ++ (m ++ c))))))
+if_pieces w h i x o l m c = simp append_assoc refl
+
+else_pieces : (w h i x o l m c e k : List ℕ) → (w ++ ((h ++ (i ++ x)) ++ (32 ∷ o))) ++ ((l ++ (m ++ ((c ++ e) ++ k))) ++ (m ++ c)) ≡ w ++ ((h ++ i) ++ (x ++ (32 ∷ ((o ++ (l ++ (m ++ c))) ++ (e ++ (k ++ (m ++ c)))))))
+else_pieces w h i x o l m c e k = simp append_assoc refl
+
+if_same : (set : Set) (vs : List Name) (first stmts : List Stmt) → SameStatements first stmts → unlined_what (what.If set vs first None) ≡ unlined_what (what.If set vs stmts None)
+unfolding unlined_what
+if_same set vs first stmts h =
+    ap unlined (put-If 0 NoStatement set vs first) ∙ ap (λ n. Branch 0 set vs n false NoStatement NoStatement) h ∙ sym (ap unlined (put-If 0 NoStatement set vs stmts))
+
+else_same : (set : Set) (vs : List Name) (first stmts other more_stmts : List Stmt) → SameStatements first stmts → SameStatements other more_stmts → unlined_what (what.If set vs first (Some other)) ≡ unlined_what (what.If set vs stmts (Some more_stmts))
+unfolding unlined_what
+else_same set vs first stmts other more_stmts h i =
+    ap unlined (put-If-else 0 NoStatement set vs first other) ∙ ap (λ n. Branch 0 set vs n true (unlined (nest other)) NoStatement) h ∙ ap (λ n. Branch 0 set vs (unlined (nest stmts)) true n NoStatement) i ∙ sym (ap unlined (put-If-else 0 NoStatement set vs stmts more_stmts))
+
+-- what stands behind the operands of a condition
+abbrev Rest : Regions → Set → List Name → ℕ → Lang Tok (What × ℕ)
+Rest R set vs total = Both (R total) (λ q. Giving (Optional (Else R q.1) (None, q.1)) (λ r. (what.If set vs q.0 r.0, r.1)))
+
+one_region : (R : Regions) (set : Set) (vs : List Name) (margin : List ℕ) (first : List Stmt) (total after : ℕ) → RegionPrints R margin first total after → Writes false (region_text margin first) (Rest R set vs total) (ActsLike (what.If set vs first None) after)
+one_region R set vs margin first total after p = record {
+  pieces = p.pieces;
+  cut = p.cut;
+  spelled = λ us a.
+    let y = p.spelled us a in
+    let q = y.0 in
+    ((what.If set vs q.0 None, q.1), ((if_same set vs first q.0 y.1.0.0, y.1.0.1), record { value = q; left = us; right = []; parts = sym (append-nil us); first = y.1.1; second = giving_text (λ (r : Option (List Stmt) × ℕ). (what.If set vs q.0 r.0, r.1)) [] (None, q.1) (inr (refl, refl)) }));
+}
+
+else_region : (R : Regions) (margin : List ℕ) (other : List Stmt) (total after : ℕ) → RegionPrints R margin other total after → Writes false (codes " else " ++ region_text margin other) (Else R total) (λ p. (ts : List Stmt) × ((p ≡ (Some ts, after)) × SameStatements other ts))
+else_region R margin other total after p =
+    writes_seq (blank_before (blank_behind (keyword (codes "else") refl refl))) tt
+    (writes_giving (λ p. (ts : List Stmt) × ((p ≡ (Some ts, after)) × SameStatements other ts)) (λ (p : List Stmt × ℕ). (Some p.0, p.1)) (λ x q. (x.0, (ap (λ n. (Some x.0, n)) q.1, q.0))) p)
+
+two_regions : (R : Regions) (set : Set) (vs : List Name) (margin : List ℕ) (first other : List Stmt) (total middle after : ℕ) → RegionPrints R margin first total middle → RegionPrints R margin other middle after
+    → Writes false (region_text margin first ++ (codes " else " ++ region_text margin other)) (Rest R set vs total) (ActsLike (what.If set vs first (Some other)) after)
+two_regions R set vs margin first other total middle after p o = record {
+  pieces = p.pieces ++ q.pieces;
+  cut = join_cut false false (region_text margin first) (codes " else " ++ region_text margin other) p.pieces q.pieces p.cut tt q.cut;
+  spelled = spelled;
+}
+  where
+    q : Writes false (codes " else " ++ region_text margin other) (Else R middle) (λ p. (ts : List Stmt) × ((p ≡ (Some ts, after)) × SameStatements other ts))
+    q = else_region R margin other middle after o
+
+    spelled : (us : List Tok) → Are (p.pieces ++ q.pieces) us → (x : What × ℕ) × (ActsLike (what.If set vs first (Some other)) after x × Rest R set vs total us x)
+    spelled us a =
+        let i = parted p.pieces q.pieces us a in
+        let y = p.spelled i.left i.first in
+        let z = q.spelled i.right i.second in
+        let b = y.0 in
+        let ts = z.1.0.0 in
+        let e : Else R b.1 i.right (Some ts, after) = subst (λ n. Else R n i.right (Some ts, after)) (sym y.1.0.1) (subst (λ r. Else R middle i.right r) z.1.0.1.0 z.1.1) in
+        ((what.If set vs b.0 (Some ts), after), ((else_same set vs first b.0 other ts y.1.0.0 z.1.0.1.1, refl), record { value = b; left = i.left; right = i.right; parts = i.parts; first = y.1.1; second = giving_text (λ (r : Option (List Stmt) × ℕ). (what.If set vs b.0 r.0, r.1)) i.right (Some ts, after) (inl e) }))
+
+if_told : (left : ℕ) (set : Set) (vs : List Name) (first : List Stmt) (total middle after : ℕ) → UsedSet set total middle → ToldOperands set.dims set.syms vs → ToldRegion (Region [] left) first middle after → ToldStatement (Region [] left) (what.If set vs first None) total after
+unfolding if_text set_text block_text operands_text
+if_told left set vs first total middle after s o region = record { small = λ h. region.small (s.small h); again = again }
+  where
+    again : (margin : List ℕ) → AllWhite margin → total ≤ 1048576 → (line : ℕ) → StatementsNest (put_what (what.If set vs first None) line NoStatement) → StatementPrints (Region [] left) margin (what.If set vs first None) total after
+    again margin white h line k =
+        let m = subst StatementsNest (put-If line NoStatement set vs first) k in
+        let x : Prints true (set_head_text set) (SomeSet [] total) (set, middle) = in_right (s.again (s.small h) m.0) in
+        let inner = one_region (Region [] left) set vs margin first middle after (region.again margin white (s.small h) m.1) in
+        let whole : Writes false (codes "affine.if " ++ (set_head_text set ++ (operands_text set.dims vs ++ (32 ∷ region_text margin first)))) (Both (One action_word) (λ a. Acted (Region [] left) [] total a)) (ActsLike (what.If set vs first None) after) =
+              writes_seq if_word tt (writes_seq x (λ r c. refl) (writes_seq (operands_again set.dims set.syms vs o) tt (writes_blank inner))) in
+        let e = if_pieces (codes "affine.if ") (opening_text (codes "affine_set<") set.dims set.syms) (rows_text set.rows) (operands_text set.dims vs) (codes "{\n") (lines (deeper margin) (nest first)) margin (codes "}") in
+        acts_prints (Region [] left) margin (what.If set vs first None) total after (loosen_writes (writes_as whole (sym e ∙ sym (statement-If margin set vs first))))
+
+if_else_told : (left : ℕ) (set : Set) (vs : List Name) (first other : List Stmt) (total n1 n2 after : ℕ) → UsedSet set total n1 → ToldOperands set.dims set.syms vs → ToldRegion (Region [] left) first n1 n2 → ToldRegion (Region [] left) other n2 after → ToldStatement (Region [] left) (what.If set vs first (Some other)) total after
+unfolding if_text set_text block_text operands_text else_text
+if_else_told left set vs first other total n1 n2 after s o region otherwise = record { small = λ h. otherwise.small (region.small (s.small h)); again = again }
+  where
+    again : (margin : List ℕ) → AllWhite margin → total ≤ 1048576 → (line : ℕ) → StatementsNest (put_what (what.If set vs first (Some other)) line NoStatement) → StatementPrints (Region [] left) margin (what.If set vs first (Some other)) total after
+    again margin white h line k =
+        let m = subst StatementsNest (put-If-else line NoStatement set vs first other) k in
+        let x : Prints true (set_head_text set) (SomeSet [] total) (set, n1) = in_right (s.again (s.small h) m.0) in
+        let h1 = s.small h in
+        let inner = two_regions (Region [] left) set vs margin first other n1 n2 after (region.again margin white h1 m.1) (otherwise.again margin white (region.small h1) m.2) in
+        let whole : Writes false (codes "affine.if " ++ (set_head_text set ++ (operands_text set.dims vs ++ (32 ∷ (region_text margin first ++ (codes " else " ++ region_text margin other)))))) (Both (One action_word) (λ a. Acted (Region [] left) [] total a)) (ActsLike (what.If set vs first (Some other)) after) =
+              writes_seq if_word tt (writes_seq x (λ r c. refl) (writes_seq (operands_again set.dims set.syms vs o) tt (writes_blank inner))) in
+        let e = else_pieces (codes "affine.if ") (opening_text (codes "affine_set<") set.dims set.syms) (rows_text set.rows) (operands_text set.dims vs) (codes "{\n") (lines (deeper margin) (nest first)) margin (codes "}") (codes " else {\n") (lines (deeper margin) (nest other)) in
+        acts_prints (Region [] left) margin (what.If set vs first (Some other)) total after (loosen_writes (writes_as whole (sym e ∙ sym (statement-If-else margin set vs first other))))

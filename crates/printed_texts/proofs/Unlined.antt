@@ -33,7 +33,7 @@ layer_unlined (What-F.Wait t at n ty) line = refl
 layer_unlined What-F.Return line = refl
 
 -- one statement, without its line
-pub unlined_what : What → Nest
+unfoldable pub unlined_what : What → Nest
 unlined_what w = unlined (put_what w 0 Nothing)
 
 what_unlined : (w : What) (line : ℕ) → unlined (put_what w line Nothing) ≡ unlined_what w
