@@ -71,7 +71,7 @@ abbrev pub AllWhite : List ℕ → Type 0
 AllWhite [] = Unit {0}
 AllWhite (b ∷ bs) = (is_white b ≡ true) × AllWhite bs
 
-margin_cut : (margin rest : List ℕ) (qs : List Piece) → AllWhite margin → AreCut (after_word []) rest qs → AreCut (after_word []) (margin ++ rest) qs
+pub margin_cut : (margin rest : List ℕ) (qs : List Piece) → AllWhite margin → AreCut (after_word []) rest qs → AreCut (after_word []) (margin ++ rest) qs
 margin_cut [] rest qs w h = h
 margin_cut (b ∷ margin) rest qs w h = cut_blank (after_word []) b (margin ++ rest) qs w.0 (margin_cut margin rest qs w.1 h)
 
@@ -242,10 +242,10 @@ pub record ToldRegion (R : Regions) (ss : List Stmt) (total after : ℕ) : Type 
   pub again : (margin : List ℕ) → AllWhite margin → total ≤ 1048576 → StatementsNest (nest ss) → RegionPrints R margin ss total after
 
 -- the brace and line feed that open a region, and the brace that closes it
-opening : Prints false (codes "{\n") (One (sign 123)) tt
+pub opening : Prints false (codes "{\n") (One (sign 123)) tt
 opening = record { pieces = open_brace.pieces; cut = λ rest qs c h. open_brace.cut (10 ∷ rest) qs tt (cut_blank (after_word []) 10 rest qs refl h); spelled = open_brace.spelled }
 
-closing : (margin : List ℕ) → AllWhite margin → Prints false (margin ++ codes "}") (One (sign 125)) tt
+pub closing : (margin : List ℕ) → AllWhite margin → Prints false (margin ++ codes "}") (One (sign 125)) tt
 closing margin white = record {
   pieces = close_brace.pieces;
   cut = λ rest qs c h. subst (λ l. AreCut (after_word []) l (close_brace.pieces ++ qs)) (sym (append_assoc margin (codes "}") rest)) (margin_cut margin (125 ∷ rest) (close_brace.pieces ++ qs) white (close_brace.cut rest qs tt h));
@@ -466,7 +466,7 @@ record ToldItem (R : Regions) (b c : List Stmt × ℕ) : Type 0 where
 item_of : (R : Regions) (b : List Stmt × ℕ) (line : ℕ) (p : What × ℕ) → ToldStatement R p.0 b.1 p.1 → ToldItem R b (behind b.0 line p)
 item_of R b line p t = record { stmt = record { line = line; what = p.0 }; stmt_is = refl; told = t }
 
-lined_some : {A : Type 0} (p : Tok → Option A) (t : Tok) (x : ℕ × A) → lined p t ≡ Some x → p t ≡ Some x.1
+pub lined_some : {A : Type 0} (p : Tok → Option A) (t : Tok) (x : ℕ × A) → lined p t ≡ Some x → p t ≡ Some x.1
 lined_some {A = A} p t x h = by_case (p t) refl h
   where
     by_case : (o : Option A) → p t ≡ o → with_line t.token.line o ≡ Some x → p t ≡ Some x.1

@@ -15,3 +15,4 @@ pub mod Unlined
 pub mod Bounds
 pub mod Plain
 pub mod Blocks
+pub mod Modules
