@@ -64,9 +64,9 @@ KindTold (kind.Memref ty) = TypeTold ty
 KindTold (kind.Index None) = Unit {0}
 KindTold (kind.Index (Some r)) = InRange r.least × InRange r.greatest
 
-record ArgTold (a : Arg) : Type 0 where
-  name : IsWritten a.name
-  kind : KindTold a.kind
+pub record ArgTold (a : Arg) : Type 0 where
+  pub name : IsWritten a.name
+  pub kind : KindTold a.kind
 
 range_end_told : (z : ℤ) (f : List Tok) → RangeEnd f z → InRange z
 range_end_told z f h = subst InRange (sym (same h.value h.right h.second)) (signed_told h.value h.left h.first)
@@ -266,3 +266,161 @@ arguments_again (x ∷ args) t =
           second = giving_text (λ _. stands) i.right tt (close_paren.spelled i.right i.second);
         })));
     })
+
+-- ---- the body of the function
+
+writes_ended : {A C : Type 0} {o m : Bool} {a b : List ℕ} {L : Lang Tok A} {Q : A → Type 0} {close : Tok → Option C} {y : C} → Writes o a L Q → Joins o b m → Prints m b (One close) y → Writes m (a ++ b) (Ended close L) Q
+writes_ended {o = o} {m = m} {a = a} {b = b} {y = y} p j q = record {
+  pieces = p.pieces ++ q.pieces;
+  cut = join_cut o m a b p.pieces q.pieces p.cut j q.cut;
+  spelled = λ us h.
+    let i = parted p.pieces q.pieces us h in
+    let x = p.spelled i.left i.first in
+    (x.0, (x.1.0, record { value = x.0; left = i.left; right = i.right; parts = i.parts; first = x.1.1; second = giving_text (λ _. x.0) i.right y (q.spelled i.right i.second) }));
+}
+
+abbrev returning : ℕ → Stmt
+returning line = record { line = line; what = what.Return }
+
+abbrev Returned : Lang Tok (List Stmt)
+Returned = Both (Statements (Region [] 39) [] 0) (λ p. Giving (One (lined (word (codes "return")))) (λ l. p.0 ++ returning l.0 ∷ []))
+
+return_word : Prints true (codes "return") (One (word (codes "return"))) tt
+return_word = keyword (codes "return") refl refl
+
+-- the line of the `return`
+return_cut : (margin : List ℕ) → AllWhite margin → Cuts false (line_text margin (codes "return")) return_word.pieces
+unfolding line_text
+return_cut margin white = λ rest qs c h.
+    let e : margin ++ (codes "return" ++ (10 ∷ rest)) ≡ (margin ++ (codes "return" ++ codes "\n")) ++ rest = simp append_assoc refl in
+    subst (λ l. AreCut (after_word []) l (return_word.pieces ++ qs)) e (margin_cut margin (codes "return" ++ (10 ∷ rest)) (return_word.pieces ++ qs) white (return_word.cut (10 ∷ rest) qs refl (cut_blank (after_word []) 10 rest qs refl h)))
+
+return_lines : (margin : List ℕ) (ss : List Stmt) (line : ℕ) → lines margin (nest (ss ++ returning line ∷ [])) ≡ lines margin (nest ss) ++ line_text margin (codes "return")
+return_lines margin ss line =
+    lines-append margin ss (returning line ∷ [])
+    ∙ ap (λ l. lines margin (nest ss) ++ l) (lines-cons margin (returning line) [] ∙ ap (λ t. line_text margin t ++ lines margin (nest [])) (statement-Return margin) ∙ ap (λ l. line_text margin (codes "return") ++ l) (lines-nil margin) ∙ append-nil (line_text margin (codes "return")))
+
+returned_again : (margin : List ℕ) (ss : List Stmt) (line after : ℕ) → AllWhite margin → LinesPrints (Region [] 39) margin ss 0 after → Writes false (lines margin (nest (ss ++ returning line ∷ []))) Returned (λ ts. SameStatements (ss ++ returning line ∷ []) ts)
+returned_again margin ss line after white p = record {
+  pieces = p.pieces ++ return_word.pieces;
+  cut = subst (λ b. Cuts false b (p.pieces ++ return_word.pieces)) (sym (return_lines margin ss line)) (join_cut false false (lines margin (nest ss)) (line_text margin (codes "return")) p.pieces return_word.pieces p.cut tt (return_cut margin white));
+  spelled = λ us a.
+    let i = parted p.pieces return_word.pieces us a in
+    let y = p.spelled i.left i.first [] in
+    let r = return_word.spelled i.right i.second in
+    let n = r.token.token.line in
+    let ts : List Stmt = y.stmts ++ returning n ∷ [] in
+    let w : One (lined (word (codes "return"))) i.right (n, tt) = record { token = r.token; alone = r.alone; accepted = ap (with_line n) r.accepted } in
+    (ts, (same_append ss y.stmts (returning line ∷ []) (returning n ∷ []) y.same (same_cons (returning line) (returning n) [] [] refl refl), record {
+      value = (y.stmts, after);
+      left = i.left;
+      right = i.right;
+      parts = i.parts;
+      first = y.spelled;
+      second = giving_text (λ (l : ℕ × Unit {0}). y.stmts ++ returning l.0 ∷ []) i.right (n, tt) w;
+    }));
+}
+
+abbrev four : List ℕ
+four = codes "    "
+
+body_again : (ss : List Stmt) (line after : ℕ) → LinesPrints (Region [] 39) four ss 0 after → Writes false (codes "{\n" ++ (lines four (nest (ss ++ returning line ∷ [])) ++ codes "  }")) (FunctionBody []) (λ ts. SameStatements (ss ++ returning line ∷ []) ts)
+body_again ss line after p = writes_seq opening tt (writes_ended (returned_again four ss line after (refl, (refl, (refl, (refl, tt)))) p) tt (closing (codes "  ") (refl, (refl, tt))))
+
+-- ---- the function
+
+-- a function of a given text
+pub record ToldFunction (m : Module) : Type 0 where
+  pub name : IsId m.name
+  pub args : AllTold m.args
+  pub stmts : List Stmt
+  pub line : ℕ
+  pub body : m.body ≡ stmts ++ returning line ∷ []
+  pub after : ℕ
+  pub told : ToldLines (Region [] 39) stmts 0 after
+
+function_told : (aliases : List Alias) (m : Module) (f : List Tok) → AliasesTold aliases → Given f → Function aliases f m → ToldFunction m
+function_told aliases m f known g h =
+    let n = h.second in
+    let a = n.second in
+    let b = a.second in
+    let g1 = given_right f h.left h.right h.parts g in
+    let g2 = given_right h.right n.left n.right n.parts g1 in
+    let g3 = given_right n.right a.left a.right a.parts g2 in
+    let i = b.first.second in
+    let gb = given_left a.right b.left b.right b.parts g3 in
+    let gi = given_left b.first.right i.left i.right i.parts (given_right b.left b.first.left b.first.right b.first.parts gb) in
+    let j = i.first in
+    let t = statements_told 39 (Region aliases 39) aliases known (region_told aliases known 39) 0 j.value j.left (given_left i.left j.left j.right j.parts gi) j.first in
+    let e : b.value ≡ j.value.0 ++ returning j.second.value.0 ∷ [] = i.second.second.1 ∙ j.second.second.1 in
+    subst ToldFunction (sym b.second.1) (record {
+      name = function_given n.first.token n.value (given_one n.left n.first.token n.first.alone (given_left h.right n.left n.right n.parts g1)) n.first.accepted;
+      args = arguments_told a.value a.left (given_left n.right a.left a.right a.parts g2) a.first;
+      stmts = j.value.0;
+      line = j.second.value.0;
+      body = e;
+      after = j.value.1;
+      told = t;
+    })
+
+-- a module that tokens spell
+abbrev Same : Module → Module → Type 0
+Same m n = AreSameButLines m n
+
+args_body : (m : Module) → Writes false (codes "(" ++ (listed arg_text m.args ++ codes ")")) Arguments (SameArguments m.args) → Writes false (codes "{\n" ++ (lines four (nest m.body) ++ codes "  }")) (FunctionBody []) (λ ts. SameStatements m.body ts)
+    → Writes false ((codes "(" ++ (listed arg_text m.args ++ codes ")")) ++ (32 ∷ (codes "{\n" ++ (lines four (nest m.body) ++ codes "  }")))) (Both Arguments (λ args. Giving (FunctionBody []) (λ ss. record { name = m.name; args = args; body = ss }))) (Same m)
+args_body m p r =
+    let q = writes_blank r in
+    record {
+      pieces = p.pieces ++ q.pieces;
+      cut = join_cut false false (codes "(" ++ (listed arg_text m.args ++ codes ")")) (32 ∷ (codes "{\n" ++ (lines four (nest m.body) ++ codes "  }"))) p.pieces q.pieces p.cut tt q.cut;
+      spelled = λ us a.
+        let i = parted p.pieces q.pieces us a in
+        let x = p.spelled i.left i.first in
+        let y = q.spelled i.right i.second in
+        let n : Module = record { name = m.name; args = x.0; body = y.0 } in
+        (n, (record { name = refl; args = x.1.0; body = y.1.0 }, record { value = x.0; left = i.left; right = i.right; parts = i.parts; first = x.1.1; second = giving_text (λ (ss : List Stmt). let o : Module = record { name = m.name; args = x.0; body = ss } in o) i.right y.0 y.1.1 }));
+    }
+
+-- ---- the file
+
+module_lists : (w s o i f at name lp args rp inner cb e : List ℕ)
+    → w ++ (s ++ ((o ++ i) ++ ((f ++ (s ++ ((at ++ name) ++ ((lp ++ (args ++ rp)) ++ (s ++ (o ++ (inner ++ cb))))))) ++ e))) ≡ (w ++ (s ++ o)) ++ (((i ++ (f ++ (s ++ at))) ++ (name ++ (lp ++ (args ++ (rp ++ (s ++ o)))))) ++ (inner ++ (cb ++ e)))
+module_lists w s o i f at name lp args rp inner cb e = simp append_assoc refl
+
+module_pieces : (name args inner : List ℕ) → codes "module" ++ (32 ∷ (codes "{\n  " ++ ((codes "func.func" ++ (32 ∷ ((64 ∷ name) ++ ((codes "(" ++ (args ++ codes ")")) ++ (32 ∷ (codes "{\n" ++ (inner ++ codes "  }"))))))) ++ codes "\n}\n"))) ≡ codes "module {\n" ++ ((codes "  func.func @" ++ (name ++ (codes "(" ++ (args ++ codes ") {\n")))) ++ (inner ++ codes "  }\n}\n"))
+module_pieces name args inner = module_lists (codes "module") (codes " ") (codes "{\n") (codes "  ") (codes "func.func") (codes "@") name (codes "(") args (codes ")") inner (codes "  }") (codes "\n}\n")
+
+-- the brace, line feed and margin before the function, and the brace and line feeds behind it
+module_opening : Prints false (codes "{\n  ") (One (sign 123)) tt
+module_opening = record { pieces = open_brace.pieces; cut = λ rest qs c h. open_brace.cut (10 ∷ 32 ∷ 32 ∷ rest) qs tt (cut_blank (after_word []) 10 (32 ∷ 32 ∷ rest) qs refl (cut_blank (after_word []) 32 (32 ∷ rest) qs refl (cut_blank (after_word []) 32 rest qs refl h))); spelled = open_brace.spelled }
+
+module_closing : Prints false (codes "\n}\n") (One (sign 125)) tt
+module_closing = record { pieces = close_brace.pieces; cut = λ rest qs c h. cut_blank (after_word []) 10 (125 ∷ 10 ∷ rest) (close_brace.pieces ++ qs) refl (close_brace.cut (10 ∷ rest) qs tt (cut_blank (after_word []) 10 rest qs refl h)); spelled = close_brace.spelled }
+
+module_again : (m : Module) → ToldFunction m → ModuleNests m → Writes false (spelling m) File (Same m)
+unfolding spelling head_text args_text
+module_again m t n =
+    let lines_told : LinesPrints (Region [] 39) four t.stmts 0 t.after = t.told.again four (refl, (refl, (refl, (refl, tt)))) (omega arith) (append_nests t.stmts (returning t.line ∷ []) (subst (λ ss. StatementsNest (nest ss)) t.body n)).0 in
+    let inner : Writes false (codes "{\n" ++ (lines four (nest m.body) ++ codes "  }")) (FunctionBody []) (λ ts. SameStatements m.body ts) = subst (λ ss. Writes false (codes "{\n" ++ (lines four (nest ss) ++ codes "  }")) (FunctionBody []) (λ ts. SameStatements ss ts)) (sym t.body) (body_again t.stmts t.line t.after lines_told) in
+    let args = arguments_again m.args t.args in
+    let name = function_prints m.name t.name in
+    let function : Writes false (codes "func.func" ++ (32 ∷ ((64 ∷ m.name) ++ ((codes "(" ++ (listed arg_text m.args ++ codes ")")) ++ (32 ∷ (codes "{\n" ++ (lines four (nest m.body) ++ codes "  }"))))))) (Function []) (Same m) =
+          writes_seq (keyword (codes "func.func") refl refl) (λ r c. refl) (writes_blank (writes_seq name (λ r c. refl) (args_body m args inner))) in
+    let wrapped = writes_seq (keyword (codes "module") refl refl) (λ r c. refl) (writes_blank (writes_seq module_opening tt (writes_ended function tt module_closing))) in
+    let file : Writes false (codes "module" ++ (32 ∷ (codes "{\n  " ++ ((codes "func.func" ++ (32 ∷ ((64 ∷ m.name) ++ ((codes "(" ++ (listed arg_text m.args ++ codes ")")) ++ (32 ∷ (codes "{\n" ++ (lines four (nest m.body) ++ codes "  }"))))))) ++ codes "\n}\n")))) File (Same m) =
+          record { pieces = wrapped.pieces; cut = wrapped.cut; spelled = λ us a. let y = wrapped.spelled us a in (y.0, (y.1.0, record { value = []; left = []; right = us; parts = refl; first = none [] [] refl; second = inl y.1.1 })) } in
+    writes_as file (module_pieces m.name (listed arg_text m.args) (lines four (nest m.body)))
+
+-- what a text spells, the printed spelling of it spells again
+module_told : (aliases : List Alias) (m : Module) (f : List Tok) → AliasesTold aliases → Given f → ModuleOf aliases f m → ToldFunction m
+module_told aliases m f known g (inr h) = function_told aliases m f known g h
+module_told aliases m f known g (inl h) =
+    let i = h.second.second in
+    let g2 = given_right h.right h.second.left h.second.right h.second.parts (given_right f h.left h.right h.parts g) in
+    subst ToldFunction (sym i.second.second.1) (function_told aliases i.value i.left known (given_left h.second.right i.left i.right i.parts g2) i.first)
+
+pub file_again : (m : Module) (f : List Tok) → Given f → File f m → ModuleNests m → Writes false (spelling m) File (AreSameButLines m)
+file_again m f g h n =
+    let known = aliases_told [] h.value h.left (given_left f h.left h.right h.parts g) tt h.first in
+    module_again m (module_told h.value m h.right known (given_right f h.left h.right h.parts g) h.second) n
