@@ -16,3 +16,4 @@ pub mod Bounds
 pub mod Plain
 pub mod Blocks
 pub mod Modules
+pub mod Whole
