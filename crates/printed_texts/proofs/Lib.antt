@@ -17,3 +17,4 @@ pub mod Plain
 pub mod Blocks
 pub mod Modules
 pub mod Whole
+pub mod Stable
