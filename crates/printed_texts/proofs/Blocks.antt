@@ -1,18 +1,16 @@
 -- Statements with regions, and lists of statements, are spelled again.
-use Rattle.std.proofs.Common.{◌≡◌, ℕ, zero, suc, ◌+◌, ◌≤◌, ◌<◌, ◌==◌, ◌&&◌, ℤ, Bool, true, false, List, [], ◌∷◌, ◌++◌, length, Option, Some, None, codes, refl, sym, ap, ◌∙◌, subst, append_assoc, append-nil, inl, inr, ◌⊎◌, arith}
-use Rattle.readers.specs.Languages.{Lang, Nothing, One, Both, Either, Many, none, more, Giving, Optional, Enclosed}
-use Rattle.readers.specs.Limits.{limited}
+use Rattle.std.proofs.Common.{◌≡◌, ℕ, zero, suc, ◌≤◌, Bool, true, false, List, [], ◌∷◌, ◌++◌, Option, Some, None, codes, refl, sym, ap, ◌∙◌, subst, append_assoc, append-nil, inl, inr}
+use Rattle.readers.specs.Languages.{Lang, One, Both, Many, none, more, Giving, Optional}
 use Rattle.readers.proofs.Texts.{giving_text}
 use Rattle.affine_lex.specs.Scan.{after_word}
 use Rattle.affine_lex.proofs.Tests.{true_no}
 use Rattle.affine_lex.proofs.Written.{Piece, AreCut, cut_blank}
 use Rattle.affine_expr.specs.declared.map.Set.{Set}
 use Rattle.affine_ast.specs.declared.name.Name.{Name}
-use Rattle.affine_ast.specs.declared.types.Bound.{Bound}
 use Rattle.affine_ast.specs.declared.stmt.Stmt.{Stmt}
 use Rattle.affine_ast.specs.declared.stmt.What.{What}
 use Rattle.affine_ast.specs.declared.stmt.What.TheVariants as what
-use Rattle.affine_ast.specs.Nest.{Nest, Nothing as NoStatement, Loop, Branch, Does, put_what, nest}
+use Rattle.affine_ast.specs.Nest.{Nothing as NoStatement, Loop, Branch, put_what, nest}
 use Rattle.affine_ast.specs.Spelling.{name_text, statement_text, lines, line_text, deeper, block_text, for_text, named_text, bounds_text, step_text, if_text, set_text, else_text, opening_text, rows_text, operands_text}
 use Rattle.affine_ast.proofs.Spellings.{statement-For, statement-If, statement-If-else, lines-nil, lines-cons}
 use Rattle.affine_ast.proofs.Nests.{put-For, put-If, put-If-else}
@@ -20,15 +18,14 @@ use Rattle.affine_grammar.specs.declared.words.Alias.{Alias}
 use Rattle.affine_grammar.specs.declared.words.Turns.{Turns}
 use Rattle.affine_grammar.specs.declared.words.Action.{Action}
 use Rattle.affine_grammar.specs.declared.words.Action.TheVariants as action
-use Rattle.affine_grammar.specs.declared.words.Definition.{Definition}
-use Rattle.affine_grammar.specs.Token.{Tok, sign, word, value, lined, with_line, definition_word, action_word}
+use Rattle.affine_grammar.specs.Token.{Tok, sign, value, lined, with_line, definition_word, action_word}
 use Rattle.affine_grammar.specs.Grammar.{SomeSet, Operands}
-use Rattle.affine_grammar.specs.GrammarFile.{TurnsOf, Regions, Defined, Acted, Else, behind, Statement, Statements, Region}
-use Rattle.printed_texts.specs.Nesting.{StatementsNest, BoundNests, RowsNest}
+use Rattle.affine_grammar.specs.GrammarFile.{Regions, Defined, Acted, Else, behind, Statement, Statements, Region}
+use Rattle.printed_texts.specs.Nesting.{StatementsNest}
 use Rattle.printed_texts.specs.Lines.{unlined}
-use Rattle.printed_texts.proofs.Pieces.{tok, Are, Parted, parted, is_white, ends, Closes, Joins, Cuts, join_cut, Prints, seq, prints_as, in_left, in_right, giving, nothing, loosen, blank_before, blank_behind}
+use Rattle.printed_texts.proofs.Pieces.{Are, parted, is_white, Joins, Cuts, join_cut, Prints, seq, in_right, blank_before, blank_behind}
 use Rattle.printed_texts.proofs.Marks.{keyword, equals_sign, open_brace, close_brace}
-use Rattle.printed_texts.proofs.Given.{Given, IsGiven, IsWritten, given_left, given_right, given_one, value_given, value_prints, limited_some}
+use Rattle.printed_texts.proofs.Given.{Given, IsWritten, given_left, given_right, given_one, value_given, value_prints, limited_some}
 use Rattle.printed_texts.proofs.Maps.{set_head_text}
 use Rattle.printed_texts.proofs.Uses.{AliasesTold, UsedSet, some_set_told, ToldOperands, operands_told, operands_again}
 use Rattle.printed_texts.proofs.Bounds.{ToldTurns, turns_told}
@@ -48,9 +45,9 @@ writes_seq {o = o} {m = m} {a = a} {b = b} {x = x} p j q = record {
   pieces = p.pieces ++ q.pieces;
   cut = join_cut o m a b p.pieces q.pieces p.cut j q.cut;
   spelled = λ us h.
-    let i = parted p.pieces q.pieces us h in
-    let y = q.spelled i.right i.second in
-    (y.0, (y.1.0, record { value = x; left = i.left; right = i.right; parts = i.parts; first = p.spelled i.left i.first; second = y.1.1 }));
+      let i = parted p.pieces q.pieces us h in
+      let y = q.spelled i.right i.second in
+      (y.0, (y.1.0, record { value = x; left = i.left; right = i.right; parts = i.parts; first = p.spelled i.left i.first; second = y.1.1 }));
 }
 
 pub writes_giving : {A B : Type 0} {o : Bool} {b : List ℕ} {L : Lang Tok A} {Q : A → Type 0} (P : B → Type 0) (f : A → B) → ((x : A) → Q x → P (f x)) → Writes o b L Q → Writes o b (Giving L f) P
@@ -143,17 +140,17 @@ defined_told : (R : Regions) (r : Name) (w : What) (total after : ℕ) → IsWri
 defined_told R r w total after n t = record {
   small = t.small;
   again = λ margin white h line k.
-    let p : Prints true (name_text r ++ (codes " = " ++ t.text)) (Both (One value) (λ r. Both (One (sign 61)) (λ _. Both (One definition_word) (λ d. Defined [] total r d)))) (w, after) =
-          seq (value_prints r n) (λ r c. refl) (seq (blank_before (blank_behind equals_sign)) tt (t.again h line k)) in
-    record { pieces = p.pieces; cut = subst (λ b. Cuts true b p.pieces) (sym (t.text_is margin)) p.cut; spelled = λ us a acc. defined_spelled R total after w us acc (p.spelled us a) };
+      let p : Prints true (name_text r ++ (codes " = " ++ t.text)) (Both (One value) (λ r. Both (One (sign 61)) (λ _. Both (One definition_word) (λ d. Defined [] total r d)))) (w, after) =
+      seq (value_prints r n) (λ r c. refl) (seq (blank_before (blank_behind equals_sign)) tt (t.again h line k)) in
+      record { pieces = p.pieces; cut = subst (λ b. Cuts true b p.pieces) (sym (t.text_is margin)) p.cut; spelled = λ us a acc. defined_spelled R total after w us acc (p.spelled us a) };
 }
 
 action_told : (R : Regions) (w : What) (total after : ℕ) → ToldAction R w total after → ToldStatement R w total after
 action_told R w total after t = record {
   small = t.small;
   again = λ margin white h line k.
-    let p = t.again h line k in
-    record { pieces = p.pieces; cut = subst (λ b. Cuts true b p.pieces) (sym (t.text_is margin)) p.cut; spelled = λ us a acc. acted_spelled R total after w w us acc refl (p.spelled us a) };
+      let p = t.again h line k in
+      record { pieces = p.pieces; cut = subst (λ b. Cuts true b p.pieces) (sym (t.text_is margin)) p.cut; spelled = λ us a acc. acted_spelled R total after w w us acc refl (p.spelled us a) };
 }
 
 -- a statement without a result, which the lines have a part in
@@ -165,8 +162,8 @@ acts_prints R margin w total after p = record {
   pieces = p.pieces;
   cut = p.cut;
   spelled = λ us a acc.
-    let x = p.spelled us a in
-    acted_spelled R total after w x.0.0 us acc x.1.0.0 (subst (λ n. Both (One action_word) (λ a. Acted R [] total a) us (x.0.0, n)) x.1.0.1 x.1.1);
+      let x = p.spelled us a in
+      acted_spelled R total after w x.0.0 us acc x.1.0.0 (subst (λ n. Both (One action_word) (λ a. Acted R [] total a) us (x.0.0, n)) x.1.0.1 x.1.1);
 }
 
 -- ---- lists of statements
@@ -204,15 +201,15 @@ lines_more R margin s ss total middle after white p q = record {
   pieces = p.pieces ++ q.pieces;
   cut = subst (λ b. Cuts false b (p.pieces ++ q.pieces)) (sym (lines-cons margin s ss)) (join_cut false false (line_text margin (statement_text margin s.what)) (lines margin (nest ss)) p.pieces q.pieces (line_cut R margin s.what total middle white p) tt q.cut);
   spelled = λ us a acc.
-    let i = parted p.pieces q.pieces us a in
-    let x = p.spelled i.left i.first acc in
-    let t : Stmt = record { line = x.line; what = x.what } in
-    let y = q.spelled i.right i.second (acc ++ t ∷ []) in
-    record {
-      stmts = t ∷ y.stmts;
-      same = same_cons s t ss y.stmts x.same y.same;
-      spelled = subst (λ l. Many (Statement R []) (acc, total) us (l, after)) (append_assoc acc (t ∷ []) y.stmts) (more (acc, total) (acc ++ t ∷ [], middle) ((acc ++ t ∷ []) ++ y.stmts, after) us i.left i.right i.parts x.spelled y.spelled);
-    };
+      let i = parted p.pieces q.pieces us a in
+      let x = p.spelled i.left i.first acc in
+      let t : Stmt = record { line = x.line; what = x.what } in
+      let y = q.spelled i.right i.second (acc ++ t ∷ []) in
+      record {
+        stmts = t ∷ y.stmts;
+        same = same_cons s t ss y.stmts x.same y.same;
+        spelled = subst (λ l. Many (Statement R []) (acc, total) us (l, after)) (append_assoc acc (t ∷ []) y.stmts) (more (acc, total) (acc ++ t ∷ [], middle) ((acc ++ t ∷ []) ++ y.stmts, after) us i.left i.right i.parts x.spelled y.spelled);
+      };
 }
 
 told_none : (R : Regions) (total : ℕ) → ToldLines R [] total total
@@ -222,8 +219,8 @@ told_more : (R : Regions) (s : Stmt) (ss : List Stmt) (total middle after : ℕ)
 told_more R s ss total middle after t r = record {
   small = λ h. r.small (t.small h);
   again = λ margin white h n.
-    let k = first_nests s ss n in
-    lines_more R margin s ss total middle after white (t.again margin white h s.line k.0) (r.again margin white (t.small h) k.1);
+      let k = first_nests s ss n in
+      lines_more R margin s ss total middle after white (t.again margin white h s.line k.0) (r.again margin white (t.small h) k.1);
 }
 
 -- ---- regions
@@ -259,9 +256,9 @@ lines_then R margin ss total after {o = o} {b = b} {x = x} make p q = record {
   pieces = p.pieces ++ q.pieces;
   cut = join_cut false o (lines margin (nest ss)) b p.pieces q.pieces p.cut tt q.cut;
   spelled = λ us a.
-    let i = parted p.pieces q.pieces us a in
-    let y = p.spelled i.left i.first [] in
-    (make (y.stmts, after) x, ((y.stmts, (y.same, refl)), record { value = (y.stmts, after); left = i.left; right = i.right; parts = i.parts; first = y.spelled; second = giving_text (make (y.stmts, after)) i.right x (q.spelled i.right i.second) }));
+      let i = parted p.pieces q.pieces us a in
+      let y = p.spelled i.left i.first [] in
+      (make (y.stmts, after) x, ((y.stmts, (y.same, refl)), record { value = (y.stmts, after); left = i.left; right = i.right; parts = i.parts; first = y.spelled; second = giving_text (make (y.stmts, after)) i.right x (q.spelled i.right i.second) }));
 }
 
 region_of : (left : ℕ) (margin : List ℕ) (ss : List Stmt) (total after : ℕ) → AllWhite margin → LinesPrints (Region [] left) (deeper margin) ss total after → RegionPrints (Region [] (suc left)) margin ss total after
@@ -295,9 +292,9 @@ loop_told left v t body total after n turns region = record { small = λ h. regi
     again margin white h line k =
         let m = subst StatementsNest (put-For line NoStatement v t.lower t.upper t.step body) k in
         let inner : Writes false (region_text margin body) (Giving (Region [] left t.total) (λ (p : List Stmt × ℕ). let x : What × ℕ = (what.For v t.lower t.upper t.step p.0, p.1) in x)) (ActsLike w after) =
-              writes_giving (ActsLike w after) (λ (p : List Stmt × ℕ). let x : What × ℕ = (what.For v t.lower t.upper t.step p.0, p.1) in x) (λ x q. (loop_same v t body x.0 q.0, q.1)) (region.again margin white (turns.small h) m.2) in
+        writes_giving (ActsLike w after) (λ (p : List Stmt × ℕ). let x : What × ℕ = (what.For v t.lower t.upper t.step p.0, p.1) in x) (λ x q. (loop_same v t body x.0 q.0, q.1)) (region.again margin white (turns.small h) m.2) in
         let whole : Writes false (codes "affine.for " ++ (name_text v ++ (codes " = " ++ ((bounds_text t.lower t.upper ++ step_text t.step) ++ (32 ∷ region_text margin body))))) (Both (One action_word) (λ a. Acted (Region [] left) [] total a)) (ActsLike w after) =
-              writes_seq for_word tt (writes_seq (value_prints v n) (λ r c. refl) (writes_seq (blank_before (blank_behind equals_sign)) tt (writes_seq (turns.again h m.0 m.1) (λ r c. refl) (writes_blank inner)))) in
+        writes_seq for_word tt (writes_seq (value_prints v n) (λ r c. refl) (writes_seq (blank_before (blank_behind equals_sign)) tt (writes_seq (turns.again h m.0 m.1) (λ r c. refl) (writes_blank inner)))) in
         let e = for_pieces (codes "affine.for ") (name_text v) (codes " = ") (bounds_text t.lower t.upper) (step_text t.step) (codes "{\n") (lines (deeper margin) (nest body)) margin (codes "}") in
         acts_prints (Region [] left) margin w total after (loosen_writes (writes_as whole (sym e ∙ sym (statement-For margin v t.lower t.upper t.step body))))
 
@@ -328,9 +325,9 @@ one_region R set vs margin first total after p = record {
   pieces = p.pieces;
   cut = p.cut;
   spelled = λ us a.
-    let y = p.spelled us a in
-    let q = y.0 in
-    ((what.If set vs q.0 None, q.1), ((if_same set vs first q.0 y.1.0.0, y.1.0.1), record { value = q; left = us; right = []; parts = sym (append-nil us); first = y.1.1; second = giving_text (λ (r : Option (List Stmt) × ℕ). (what.If set vs q.0 r.0, r.1)) [] (None, q.1) (inr (refl, refl)) }));
+      let y = p.spelled us a in
+      let q = y.0 in
+      ((what.If set vs q.0 None, q.1), ((if_same set vs first q.0 y.1.0.0, y.1.0.1), record { value = q; left = us; right = []; parts = sym (append-nil us); first = y.1.1; second = giving_text (λ (r : Option (List Stmt) × ℕ). (what.If set vs q.0 r.0, r.1)) [] (None, q.1) (inr (refl, refl)) }));
 }
 
 else_region : (R : Regions) (margin : List ℕ) (other : List Stmt) (total after : ℕ) → RegionPrints R margin other total after → Writes false (codes " else " ++ region_text margin other) (Else R total) (λ p. (ts : List Stmt) × ((p ≡ (Some ts, after)) × SameStatements other ts))
@@ -369,7 +366,7 @@ if_told left set vs first total middle after s o region = record { small = λ h.
         let x : Prints true (set_head_text set) (SomeSet [] total) (set, middle) = in_right (s.again (s.small h) m.0) in
         let inner = one_region (Region [] left) set vs margin first middle after (region.again margin white (s.small h) m.1) in
         let whole : Writes false (codes "affine.if " ++ (set_head_text set ++ (operands_text set.dims vs ++ (32 ∷ region_text margin first)))) (Both (One action_word) (λ a. Acted (Region [] left) [] total a)) (ActsLike (what.If set vs first None) after) =
-              writes_seq if_word tt (writes_seq x (λ r c. refl) (writes_seq (operands_again set.dims set.syms vs o) tt (writes_blank inner))) in
+        writes_seq if_word tt (writes_seq x (λ r c. refl) (writes_seq (operands_again set.dims set.syms vs o) tt (writes_blank inner))) in
         let e = if_pieces (codes "affine.if ") (opening_text (codes "affine_set<") set.dims set.syms) (rows_text set.rows) (operands_text set.dims vs) (codes "{\n") (lines (deeper margin) (nest first)) margin (codes "}") in
         acts_prints (Region [] left) margin (what.If set vs first None) total after (loosen_writes (writes_as whole (sym e ∙ sym (statement-If margin set vs first))))
 
@@ -384,7 +381,7 @@ if_else_told left set vs first other total n1 n2 after s o region otherwise = re
         let h1 = s.small h in
         let inner = two_regions (Region [] left) set vs margin first other n1 n2 after (region.again margin white h1 m.1) (otherwise.again margin white (region.small h1) m.2) in
         let whole : Writes false (codes "affine.if " ++ (set_head_text set ++ (operands_text set.dims vs ++ (32 ∷ (region_text margin first ++ (codes " else " ++ region_text margin other)))))) (Both (One action_word) (λ a. Acted (Region [] left) [] total a)) (ActsLike (what.If set vs first (Some other)) after) =
-              writes_seq if_word tt (writes_seq x (λ r c. refl) (writes_seq (operands_again set.dims set.syms vs o) tt (writes_blank inner))) in
+        writes_seq if_word tt (writes_seq x (λ r c. refl) (writes_seq (operands_again set.dims set.syms vs o) tt (writes_blank inner))) in
         let e = else_pieces (codes "affine.if ") (opening_text (codes "affine_set<") set.dims set.syms) (rows_text set.rows) (operands_text set.dims vs) (codes "{\n") (lines (deeper margin) (nest first)) margin (codes "}") (codes " else {\n") (lines (deeper margin) (nest other)) in
         acts_prints (Region [] left) margin (what.If set vs first (Some other)) total after (loosen_writes (writes_as whole (sym e ∙ sym (statement-If-else margin set vs first other))))
 

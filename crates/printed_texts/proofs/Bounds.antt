@@ -1,17 +1,16 @@
 -- The bounds and steps of loops are spelled again.
-use Rattle.std.proofs.Common.{◌≡◌, ℕ, zero, suc, ◌+◌, ◌≤◌, ◌<◌, ◌==◌, ◌&&◌, ◌||◌, nat_lt, ℤ, pos, negsuc, Bool, true, false, if◌then◌else◌, List, [], ◌∷◌, ◌++◌, length, Option, Some, None, codes, bytes_eq, decimal, int_eq, refl, sym, ap, ◌∙◌, subst, append_assoc, append-nil, inl, inr, ◌⊎◌, arith}
+use Rattle.std.proofs.Common.{◌≡◌, ℕ, ◌≤◌, nat_lt, ℤ, pos, Bool, true, false, if◌then◌else◌, List, [], ◌++◌, length, codes, bytes_eq, int_eq, refl, sym, ap, subst, append_assoc, inl, inr, arith}
 use Rattle.std.proofs.lemmas.Bool.Decides.{Decides-int_eq}
 use Rattle.std.specs.Fmt.{signed_decimal}
-use Rattle.readers.specs.Languages.{Lang, Nothing, One, Both, Either, Giving, Optional}
+use Rattle.readers.specs.Languages.{Nothing, One, Optional}
 use Rattle.affine_ast.specs.declared.name.Name.{Name}
 use Rattle.affine_ast.specs.declared.types.Access.{Access}
 use Rattle.affine_ast.specs.declared.types.Bound.{Bound}
 use Rattle.affine_ast.specs.declared.types.Bound.TheVariants as bound
-use Rattle.affine_ast.specs.Spelling.{bound_text, pick_text, bounds_text, step_text, use_text, name_text}
+use Rattle.affine_ast.specs.Spelling.{bound_text, pick_text, bounds_text, step_text, use_text}
 use Rattle.affine_grammar.specs.declared.words.Alias.{Alias}
 use Rattle.affine_grammar.specs.declared.words.Turns.{Turns}
-use Rattle.affine_grammar.specs.Token.{Tok, word, value, integer}
-use Rattle.affine_grammar.specs.Grammar.{Use, Signed}
+use Rattle.affine_grammar.specs.Token.{Tok, integer}
 use Rattle.affine_grammar.specs.GrammarFile.{BoundOf, Step, TurnsOf}
 use Rattle.printed_texts.specs.Nesting.{BoundNests, UseNests}
 use Rattle.printed_texts.proofs.Pieces.{ends, Prints, seq, prints_as, in_left, in_right, giving, nothing, loosen, blank_before, blank_behind}
@@ -98,13 +97,13 @@ unfolding bounds_text
 turns_of total p q z a b s = record {
   small = λ h. b.small (a.small h);
   again = λ h n m.
-    let x : Prints true (bound_text (codes "max ") p.0) (BoundOf (codes "max") [] total) p = a.again h n in
-    let y : Prints true (bound_text (codes "min ") q.0) (BoundOf (codes "min") [] p.1) q = b.again (a.small h) m in
-    let t : Turns = record { lower = p.0; upper = q.0; step = z; total = q.1 } in
-    let inner = seq y (step_joins z) (giving (λ z. let t : Turns = record { lower = p.0; upper = q.0; step = z; total = q.1 } in t) (step_again z s)) in
-    let w = seq (blank_before (blank_behind (keyword (codes "to") refl refl))) tt inner in
-    let whole : Prints true (bound_text (codes "max ") p.0 ++ (codes " to " ++ (bound_text (codes "min ") q.0 ++ step_text z))) (TurnsOf [] total) t = seq x (λ r c. refl) w in
-    prints_as whole (simp append_assoc refl);
+      let x : Prints true (bound_text (codes "max ") p.0) (BoundOf (codes "max") [] total) p = a.again h n in
+      let y : Prints true (bound_text (codes "min ") q.0) (BoundOf (codes "min") [] p.1) q = b.again (a.small h) m in
+      let t : Turns = record { lower = p.0; upper = q.0; step = z; total = q.1 } in
+      let inner = seq y (step_joins z) (giving (λ z. let t : Turns = record { lower = p.0; upper = q.0; step = z; total = q.1 } in t) (step_again z s)) in
+      let w = seq (blank_before (blank_behind (keyword (codes "to") refl refl))) tt inner in
+      let whole : Prints true (bound_text (codes "max ") p.0 ++ (codes " to " ++ (bound_text (codes "min ") q.0 ++ step_text z))) (TurnsOf [] total) t = seq x (λ r c. refl) w in
+      prints_as whole (simp append_assoc refl);
 }
 
 pub turns_told : (aliases : List Alias) (total : ℕ) (t : Turns) (f : List Tok) → AliasesTold aliases → Given f → TurnsOf aliases total f t → ToldTurns t total

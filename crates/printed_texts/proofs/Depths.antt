@@ -1,5 +1,5 @@
 -- The depths of expressions, one equation for each kind.
-use Rattle.std.proofs.Common.{◌≡◌, ℕ, suc, max, ◌≤◌, ℤ, pos, negsuc, Bool, true, false, not, ◌&&◌, refl, sym, ap, ◌∙◌, arith}
+use Rattle.std.proofs.Common.{◌≡◌, ℕ, suc, max, ℤ, pos, true, sym, ap, ◌∙◌}
 use Rattle.std.specs.Ordering.{int_eq}
 use Rattle.affine_expr.specs.declared.expr.Expr.{Expr, Dim, Sym, Const, Neg, Add, Sub, Mul, FloorDiv, CeilDiv, Mod, fold-Expr, fold-roll-Expr}
 use Rattle.affine_expr.specs.declared.expr.Expr.TheVariants.{rolls-Dim, rolls-Sym, rolls-Const, rolls-Neg, rolls-Add, rolls-Sub, rolls-Mul, rolls-FloorDiv, rolls-CeilDiv, rolls-Mod}
@@ -50,7 +50,7 @@ pub zeros-Const : (z : ℤ) → zeros (Const z) ≡ record { zero = int_eq z (po
 unfolding zeros
 zeros-Const z = ap (fold-Expr Zeros zeros_step) (sym (rolls-Const z)) ∙ fold-roll-Expr Zeros zeros_step (Expr-F.Const z)
 
-pub zeros-Neg : (a : Expr) → zeros (Neg a) ≡ record { zero = false; bare = (zeros a).bare && not (zeros a).zero }
+pub zeros-Neg : (a : Expr) → zeros (Neg a) ≡ zeros_step (Expr-F.Neg (zeros a))
 unfolding zeros
 zeros-Neg a = ap (fold-Expr Zeros zeros_step) (sym (rolls-Neg a)) ∙ fold-roll-Expr Zeros zeros_step (Expr-F.Neg a)
 

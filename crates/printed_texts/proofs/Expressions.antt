@@ -1,25 +1,24 @@
 -- Each expression of a given text is spelled again by its printed spelling.
-use Rattle.std.proofs.Common.{◌≡◌, ℕ, zero, suc, max, ◌+◌, ◌≤◌, ◌<◌, ◌==◌, ◌&&◌, ◌||◌, not, nat_le, ℤ, pos, negsuc, neg_ℤ, Bool, true, false, if◌then◌else◌, List, [], ◌∷◌, ◌++◌, length, Option, Some, None, codes, bytes_eq, refl, sym, ap, ◌∙◌, subst, inl, inr, ◌⊎◌, arith}
+use Rattle.std.proofs.Common.{◌≡◌, ℕ, zero, suc, max, ◌≤◌, ◌==◌, ◌&&◌, ◌||◌, not, nat_le, pos, negsuc, Bool, true, false, if◌then◌else◌, List, ◌∷◌, Option, Some, None, codes, bytes_eq, refl, sym, ap, ◌∙◌, subst, inl, inr, ◌⊎◌, arith}
 use Rattle.std.proofs.lemmas.Bool.Decides.{nat_tests}
-use Rattle.std.specs.Ordering.{int_eq}
-use Rattle.readers.specs.Languages.{Lang, Nothing, One, Both, Either, Many, none, more, Enclosed}
+use Rattle.readers.specs.Languages.{Nothing, One, Both, Either, Many, none, more}
 use Rattle.affine_lex.proofs.Tests.{true_no, and_left, and_right}
 use Rattle.affine_expr.specs.declared.expr.Expr.{Expr, fold-Expr, fold-roll-Expr, map-Expr, out-Expr, roll-out-Expr}
 use Rattle.affine_expr.specs.declared.expr.Expr.TheVariants as e
 use Rattle.affine_expr.specs.declared.expr.Expr.TheOpen.{Expr-F}
-use Rattle.affine_ast.specs.Spelling.{Texts, as_sum, as_product, as_unary, as_literal, sum_text, product_text, texts, expression_text}
+use Rattle.affine_ast.specs.Spelling.{as_sum, as_product, as_unary, sum_text, product_text, texts, expression_text}
 use Rattle.affine_ast.proofs.Spellings.{texts-Neg, texts-Add, texts-Sub, texts-Mul, texts-FloorDiv, texts-CeilDiv, texts-Mod}
 use Rattle.affine_grammar.specs.declared.words.State.{State}
 use Rattle.affine_grammar.specs.declared.words.Leaves.{Leaves}
 use Rattle.affine_grammar.specs.declared.words.Leaves.TheVariants as leaves
 use Rattle.affine_grammar.specs.declared.words.Operator.{Operator}
 use Rattle.affine_grammar.specs.declared.words.Operator.TheVariants as operator
-use Rattle.affine_grammar.specs.Token.{Tok, Class, Sign, Keyword, ValueName, AliasName, FunctionName, Number, Size, ArrowSign, Relation, Other as NoClass, class, sign, sum_op, product_op, sum_in, sum_of, product_in, product_word, joined, number, negative_number}
+use Rattle.affine_grammar.specs.Token.{Tok, Class, Sign, Keyword, ValueName, AliasName, FunctionName, Number, Size, ArrowSign, Relation, Other as NoClass, class, sum_op, product_op, sum_in, product_in, product_word, joined, number, negative_number}
 use Rattle.affine_grammar.specs.Grammar.{Spelling, Factor, Product, Summand, Sum, UnaryOf, Other, Unary, Leaf, Expression, begun}
-use Rattle.printed_texts.specs.Nesting.{Depths, sum_depths, product_depths, unary_depths, literal_depths, depths_step, depths, Zeros, both_bare, zeros, printed_nesting, nests_within}
+use Rattle.printed_texts.specs.Nesting.{Depths, sum_depths, product_depths, depths_step, depths, Zeros, both_bare, zeros, printed_nesting, nests_within}
 use Rattle.printed_texts.proofs.Pieces.{Prints, in_left, in_right, giving}
-use Rattle.printed_texts.proofs.Marks.{NoArrow, minus_then}
-use Rattle.printed_texts.proofs.Given.{Given, given_left, given_right, of_keyword_some}
+use Rattle.printed_texts.proofs.Marks.{minus_then}
+use Rattle.printed_texts.proofs.Given.{Given, given_left, given_right}
 use Rattle.printed_texts.proofs.Depths.{depths-Neg, depths-Add, depths-Sub, depths-Mul, depths-FloorDiv, depths-CeilDiv, depths-Mod, zeros-Neg, zeros-Add, zeros-Sub, zeros-Mul, zeros-FloorDiv, zeros-CeilDiv, zeros-Mod}
 use Rattle.printed_texts.proofs.Places.{Placed, placed_sum, placed_product, placed_unary, product_more, sum_more, plus_op, minus_op, star_op, floor_op, ceil_op, mod_op}
 use Rattle.printed_texts.proofs.States.{Grown, grown_then, printed_leaves, moved, Room, Fixed, fixed_then}

@@ -1,19 +1,18 @@
 -- What the tokens of a given text tell: names have the form of names, and numbers are in their ranges.
-use Rattle.std.proofs.Common.{◌≡◌, ℕ, zero, suc, ◌==◌, ◌&&◌, ◌+◌, ◌≤◌, ◌<◌, ◌^◌, ℤ, pos, neg_ℤ, nat_le, Bool, true, false, cond, if◌then◌else◌, List, [], ◌∷◌, ◌++◌, length, drop, Option, Some, None, refl, sym, ap, ◌∙◌, subst, ◌⊎◌, inl, inr, length-append, arith}
+use Rattle.std.proofs.Common.{◌≡◌, ℕ, ◌&&◌, ◌≤◌, ◌<◌, ◌^◌, ℤ, pos, neg_ℤ, nat_le, Bool, true, false, if◌then◌else◌, List, [], ◌∷◌, ◌++◌, length, drop, Option, Some, None, refl, sym, ap, ◌∙◌, subst, inl, inr, length-append, arith}
 use Rattle.std.proofs.lemmas.Bool.Decides.{nat_tests}
 use Rattle.std.specs.Char.{is_ascii, is_ascii_digit}
 use Rattle.readers.specs.Languages.{One}
 use Rattle.readers.specs.Limits.{limited}
-use Rattle.affine_lex.specs.Tokens.{IsId, IsDigits, IsName, HasForm, kind_of}
+use Rattle.affine_lex.specs.Tokens.{IsId, IsDigits, IsName}
 use Rattle.affine_lex.specs.declared.token.Kind.{Kind}
 use Rattle.affine_lex.specs.declared.token.Kind.TheVariants as k
 use Rattle.affine_lex.proofs.Tests.{true_no}
-use Rattle.affine_expr.specs.declared.map.Rel.{Rel}
 use Rattle.affine_ast.specs.declared.name.Name.{Name}
 use Rattle.affine_ast.specs.Spelling.{name_text}
-use Rattle.affine_grammar.specs.Token.{Tok, Class, Sign, Keyword, ValueName, AliasName, FunctionName, Number, Size, ArrowSign, Relation, Other, class_of, class, of_value, of_keyword, of_alias, of_function, of_number, of_size, value, function_name, named, string_of, all_ascii, integer, negative, positive, negated, size, space, within}
+use Rattle.affine_grammar.specs.Token.{Tok, Class, Sign, Keyword, ValueName, AliasName, FunctionName, Number, Size, ArrowSign, Relation, Other, class_of, class, of_value, of_keyword, of_alias, of_function, of_number, of_size, value, function_name, named, string_of, all_ascii, integer, negative, positive, negated, space, within}
 use Rattle.affine_grammar.proofs.Names.{id_is_ascii, string_is}
-use Rattle.printed_texts.proofs.Pieces.{tok, Prints}
+use Rattle.printed_texts.proofs.Pieces.{Prints}
 use Rattle.printed_texts.proofs.Marks.{IsValueName, name_piece, function_piece}
 
 -- ---- tokens of a given text

@@ -1,8 +1,8 @@
 -- The operands of a given text, and of its printed spelling.
-use Rattle.std.proofs.Common.{◌≡◌, ℕ, zero, suc, ◌+◌, ◌≤◌, ◌<◌, ◌==◌, ◌&&◌, ◌||◌, ◌^◌, ℤ, pos, negsuc, neg_ℤ, nat_le, Bool, true, false, if◌then◌else◌, List, [], ◌∷◌, ◌++◌, length, Option, Some, None, slice_get, decimal, codes, not, bytes_eq, append-nil, length-append, refl, sym, ap, ◌∙◌, subst, inl, inr, ◌⊎◌, arith}
+use Rattle.std.proofs.Common.{◌≡◌, ℕ, zero, suc, ◌+◌, ◌≤◌, ◌<◌, ◌&&◌, ◌^◌, ℤ, pos, negsuc, neg_ℤ, nat_le, Bool, true, false, if◌then◌else◌, List, [], ◌∷◌, ◌++◌, length, Option, Some, None, slice_get, decimal, codes, not, bytes_eq, append-nil, length-append, refl, sym, ap, ◌∙◌, subst, inl, inr, arith}
 use Rattle.std.proofs.lemmas.Bool.Decides.{nat_tests}
 use Rattle.std.specs.Char.{is_ascii_digit}
-use Rattle.readers.specs.Languages.{Lang, Nothing, One, Both, Either, Enclosed}
+use Rattle.readers.specs.Languages.{One}
 use Rattle.readers.specs.Limits.{limited}
 use Rattle.affine_lex.specs.Tokens.{IsDigits}
 use Rattle.affine_lex.specs.declared.token.Kind.TheVariants as k
@@ -10,21 +10,21 @@ use Rattle.affine_lex.proofs.Written.{Piece}
 use Rattle.affine_expr.specs.declared.expr.Expr.{Expr}
 use Rattle.affine_expr.specs.declared.expr.Expr.TheVariants as e
 use Rattle.affine_ast.specs.declared.name.Name.{Name}
-use Rattle.affine_ast.specs.Spelling.{Texts, as_unary, as_literal, texts, operand_text, name_text}
+use Rattle.affine_ast.specs.Spelling.{as_unary, as_literal, texts, operand_text, name_text}
 use Rattle.affine_ast.proofs.Spellings.{texts-Dim, texts-Sym, texts-Const}
 use Rattle.affine_grammar.specs.declared.words.State.{State}
 use Rattle.affine_grammar.specs.declared.words.Leaves.{Leaves}
 use Rattle.affine_grammar.specs.declared.words.Leaves.TheVariants as leaves
-use Rattle.affine_grammar.specs.Token.{Tok, Class, class, sign, word, integer, negative, positive, negated, number, negative_number, counted_leaf, counting, is_full, parameter, parameter_of, or_else, number_of, of_keyword, of_value, dimension, dimension_of, symbol, symbol_of, symbol_word, appears, all_ascii}
+use Rattle.affine_grammar.specs.Token.{Tok, class, word, integer, negative, number, negative_number, counted_leaf, counting, is_full, parameter, parameter_of, or_else, number_of, of_keyword, of_value, dimension, dimension_of, symbol, symbol_of, symbol_word, appears}
 use Rattle.affine_grammar.specs.Grammar.{Leaf, Other}
 use Rattle.affine_lex.proofs.Tests.{true_no}
 use Rattle.printed_texts.specs.Nesting.{Depths, unary_depths, literal_depths, depths, Zeros, zeros}
-use Rattle.printed_texts.proofs.Pieces.{is_word_first, is_word_byte, tok, Prints, seq, prints_as, in_left, in_right, giving, loosen, recast}
-use Rattle.printed_texts.proofs.Marks.{NoArrow, is_keyword, word_piece, keyword, name_piece, number_piece, open_paren, close_paren, IsValueName, all_word, decimal_digits}
-use Rattle.printed_texts.proofs.Given.{Given, IsGiven, given_left, given_right, given_one, limited_some, of_keyword_some, of_value_some, value_name, integer_given, negative_given, IsPositive, IsNegative}
+use Rattle.printed_texts.proofs.Pieces.{is_word_first, is_word_byte, tok, Prints, seq, in_left, in_right, loosen}
+use Rattle.printed_texts.proofs.Marks.{NoArrow, is_keyword, word_piece, name_piece, number_piece, IsValueName, all_word, decimal_digits}
+use Rattle.printed_texts.proofs.Given.{Given, given_left, given_right, given_one, limited_some, of_keyword_some, of_value_some, value_name, integer_given, negative_given}
 use Rattle.printed_texts.proofs.Depths.{depths-Dim, depths-Sym, depths-Const, zeros-Const}
 use Rattle.printed_texts.proofs.Places.{Placed, placed_unary, placed_number, placed_negative, parens}
-use Rattle.printed_texts.proofs.States.{params, param_number, symbol_none, Numbered, number_of_some, numbered_behind, Appeared, appeared, Grown, grown_same, grown_counting, grown_then, numbered_dims, numbered_syms, first_numbered, printed_leaves, moved, Room, Fixed, fixed_counting, moved_counting, not_full, moved_not_full}
+use Rattle.printed_texts.proofs.States.{params, param_number, symbol_none, Numbered, number_of_some, numbered_behind, Appeared, appeared, Grown, grown_counting, numbered_dims, numbered_syms, first_numbered, printed_leaves, moved, Room, Fixed, fixed_counting, moved_counting, not_full, moved_not_full}
 
 -- an expression is spelled again in each place, in the printed spelling that ends with a state
 abbrev pub Again : Leaves → ℕ → State → State → Expr × State → Type 0
@@ -167,15 +167,15 @@ parameter_told s p f (IsDim i q b) = subst (Told leaves.Parameters s) (sym q) (r
   grown = grown_counting s f;
   fixed = (refl, refl);
   placed = λ d final room g.
-    let n : i < 2 ^ 64 = omega (arith, b, room.few.0, ap (λ (x : List Name). length x) g.dims_are, length-append s.dims g.dims) in
-    leaf_dim leaves.Parameters d final s (counting s) i (placed_leaf leaves.Parameters (moved leaves.Parameters d s) (dim_again d s i b n (room_left leaves.Parameters d s (counting s) final f (one_more s.total) room g)) (λ r c. refl));
+      let n : i < 2 ^ 64 = omega (arith, b, room.few.0, ap (λ (x : List Name). length x) g.dims_are, length-append s.dims g.dims) in
+      leaf_dim leaves.Parameters d final s (counting s) i (placed_leaf leaves.Parameters (moved leaves.Parameters d s) (dim_again d s i b n (room_left leaves.Parameters d s (counting s) final f (one_more s.total) room g)) (λ r c. refl));
 })
 parameter_told s p f (IsSym i q b) = subst (Told leaves.Parameters s) (sym q) (record {
   grown = grown_counting s f;
   fixed = (refl, refl);
   placed = λ d final room g.
-    let n : i < 2 ^ 64 = omega (arith, b, room.few.1, ap (λ (x : List Name). length x) g.syms_are, length-append s.syms g.syms) in
-    leaf_sym leaves.Parameters d final s (counting s) i (placed_leaf leaves.Parameters (moved leaves.Parameters d s) (sym_again d s i b n (room_left leaves.Parameters d s (counting s) final f (one_more s.total) room g)) (λ r c. refl));
+      let n : i < 2 ^ 64 = omega (arith, b, room.few.1, ap (λ (x : List Name). length x) g.syms_are, length-append s.syms g.syms) in
+      leaf_sym leaves.Parameters d final s (counting s) i (placed_leaf leaves.Parameters (moved leaves.Parameters d s) (sym_again d s i b n (room_left leaves.Parameters d s (counting s) final f (one_more s.total) room g)) (λ r c. refl));
 })
 
 -- ---- values
@@ -217,9 +217,9 @@ dimension_told s w h f =
       grown = grown_dims s w f a;
       fixed = tt;
       placed = λ d final room g.
-        let n = first_numbered w final.dims final.syms (appears w s.dims).0 (numbered_dims w t final (appears w s.dims).0 g a.numbered) in
-        let p : Prints true (37 ∷ w) (Leaf leaves.Values (moved leaves.Values d s)) (e.Dim (appears w s.dims).0, moved leaves.Values d t) = in_right (value_again d s w h (room_left leaves.Values d s t final f (one_more s.total) room g)) in
-        leaf_dim leaves.Values d final s t (appears w s.dims).0 (subst (λ b. Placed leaves.Values (as_unary b) (unary_depths 0) (moved leaves.Values d s) (e.Dim (appears w s.dims).0, moved leaves.Values d t)) (sym (operand_is w (final.dims ++ final.syms) (appears w s.dims).0 n)) (placed_leaf leaves.Values (moved leaves.Values d s) p (λ r c. refl)));
+          let n = first_numbered w final.dims final.syms (appears w s.dims).0 (numbered_dims w t final (appears w s.dims).0 g a.numbered) in
+          let p : Prints true (37 ∷ w) (Leaf leaves.Values (moved leaves.Values d s)) (e.Dim (appears w s.dims).0, moved leaves.Values d t) = in_right (value_again d s w h (room_left leaves.Values d s t final f (one_more s.total) room g)) in
+          leaf_dim leaves.Values d final s t (appears w s.dims).0 (subst (λ b. Placed leaves.Values (as_unary b) (unary_depths 0) (moved leaves.Values d s) (e.Dim (appears w s.dims).0, moved leaves.Values d t)) (sym (operand_is w (final.dims ++ final.syms) (appears w s.dims).0 n)) (placed_leaf leaves.Values (moved leaves.Values d s) p (λ r c. refl)));
     }
 
 symbol_again : (d : ℕ) (s : State) (w : List ℕ) → IsValueName w → Prints true (37 ∷ w) (One (symbol (moved leaves.Values d s))) (e.Sym (appears w s.syms).0, moved leaves.Values d (with_syms s (appears w s.syms).1))
@@ -234,11 +234,11 @@ symbol_told s w h f =
       grown = grown_syms s w f a;
       fixed = tt;
       placed = λ d final room g.
-        let n = numbered_behind w final.dims final.syms (appears w s.syms).0 (numbered_syms w t final (appears w s.syms).0 g a.numbered) in
-        let u = moved leaves.Values d s in
-        let x : Prints true (codes "symbol") (One (symbol_word u)) tt = word_piece (codes "symbol") (symbol_word u) tt refl (λ line column. open_limit (is_full u) (word (codes "symbol")) (k.Word, codes "symbol") line column (room_left leaves.Values d s t final f (one_more s.total) room g)) in
-        let p : Prints true (codes "symbol" ++ (codes "(" ++ (37 ∷ w ++ codes ")"))) (Leaf leaves.Values u) (e.Sym (appears w s.syms).0, moved leaves.Values d t) = in_left (seq x (λ r c. refl) (loosen (parens (symbol_again d s w h)))) in
-        leaf_sym leaves.Values d final s t (appears w s.syms).0 (subst (λ b. Placed leaves.Values (as_unary (codes "symbol(" ++ (b ++ codes ")"))) (unary_depths 0) u (e.Sym (appears w s.syms).0, moved leaves.Values d t)) (sym (operand_is w (final.dims ++ final.syms) (length final.dims + (appears w s.syms).0) n)) (placed_leaf leaves.Values u p (λ r c. refl)));
+          let n = numbered_behind w final.dims final.syms (appears w s.syms).0 (numbered_syms w t final (appears w s.syms).0 g a.numbered) in
+          let u = moved leaves.Values d s in
+          let x : Prints true (codes "symbol") (One (symbol_word u)) tt = word_piece (codes "symbol") (symbol_word u) tt refl (λ line column. open_limit (is_full u) (word (codes "symbol")) (k.Word, codes "symbol") line column (room_left leaves.Values d s t final f (one_more s.total) room g)) in
+          let p : Prints true (codes "symbol" ++ (codes "(" ++ (37 ∷ w ++ codes ")"))) (Leaf leaves.Values u) (e.Sym (appears w s.syms).0, moved leaves.Values d t) = in_left (seq x (λ r c. refl) (loosen (parens (symbol_again d s w h)))) in
+          leaf_sym leaves.Values d final s t (appears w s.syms).0 (subst (λ b. Placed leaves.Values (as_unary (codes "symbol(" ++ (b ++ codes ")"))) (unary_depths 0) u (e.Sym (appears w s.syms).0, moved leaves.Values d t)) (sym (operand_is w (final.dims ++ final.syms) (length final.dims + (appears w s.syms).0) n)) (placed_leaf leaves.Values u p (λ r c. refl)));
     }
 
 -- ---- leaves

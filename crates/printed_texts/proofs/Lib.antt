@@ -18,3 +18,4 @@ pub mod Blocks
 pub mod Modules
 pub mod Whole
 pub mod Stable
+pub mod Examples

@@ -1,21 +1,19 @@
 -- Lists of expressions and rows of a given text are spelled again.
-use Rattle.std.proofs.Common.{◌≡◌, ℕ, zero, suc, ◌+◌, ◌≤◌, ◌<◌, ◌&&◌, nat_le, Bool, true, false, if◌then◌else◌, List, [], ◌∷◌, ◌++◌, length, Option, Some, None, flat_map, codes, refl, sym, ap, ◌∙◌, subst, append_assoc, append-nil, inl, inr, ◌⊎◌, arith}
-use Rattle.std.specs.List.{join_by}
-use Rattle.readers.specs.Languages.{Lang, Nothing, One, Both, Either, Many, none, more, Giving, Enclosed}
-use Rattle.readers.specs.Limits.{limited}
+use Rattle.std.proofs.Common.{◌≡◌, ℕ, ◌&&◌, nat_le, Bool, true, false, if◌then◌else◌, List, [], ◌∷◌, ◌++◌, length, Some, None, flat_map, codes, refl, sym, ap, ◌∙◌, subst, append_assoc, append-nil, inl, inr, ◌⊎◌}
+use Rattle.readers.specs.Languages.{One, Many, none, more}
 use Rattle.affine_lex.specs.declared.token.Kind.TheVariants as k
 use Rattle.affine_expr.specs.declared.expr.Expr.{Expr}
 use Rattle.affine_expr.specs.declared.map.Constraint.{Constraint}
 use Rattle.affine_expr.specs.declared.map.Rel.{Rel}
 use Rattle.affine_expr.specs.declared.map.Rel.TheVariants as rel
-use Rattle.affine_ast.specs.Spelling.{expression_text, parameters, relation_text, row_text, listed}
+use Rattle.affine_ast.specs.Spelling.{expression_text, parameters, relation_text, row_text}
 use Rattle.affine_grammar.specs.declared.words.State.{State}
 use Rattle.affine_grammar.specs.declared.words.Leaves.{Leaves}
 use Rattle.affine_grammar.specs.declared.words.Leaves.TheVariants as leaves
 use Rattle.affine_grammar.specs.Token.{Tok, sign, relation, comma_within}
-use Rattle.affine_grammar.specs.Grammar.{Expression, Result, NextResult, Row, NextRow}
+use Rattle.affine_grammar.specs.Grammar.{NextResult, Row, NextRow}
 use Rattle.printed_texts.specs.Nesting.{nests_within, AllNest, RowsNest}
-use Rattle.printed_texts.proofs.Pieces.{tok, ends, Prints, seq, prints_as, giving, no_item, item_then, blank_before, blank_behind}
+use Rattle.printed_texts.proofs.Pieces.{tok, ends, Prints, seq, giving, no_item, item_then, blank_before, blank_behind}
 use Rattle.printed_texts.proofs.Marks.{tight_piece, greater_equal_piece, less_equal_piece, equal_piece}
 use Rattle.printed_texts.proofs.Given.{Given, IsGiven, given_left, given_right, given_one, limited_some}
 use Rattle.printed_texts.proofs.States.{Grown, grown_same, grown_then, printed_leaves, moved, Room, Fixed, fixed_then}
@@ -70,7 +68,7 @@ list_more l b c q h t r = record {
     by_case several (inr e) d final room g n = absurd cc
     by_case several (inl e) d final room g n =
         let x : Prints true (codes ", " ++ expression_text (printed_leaves l final) q.0) (NextResult l several (b.0, moved l d b.1)) (b.0 ++ q.0 ∷ [], moved l d q.1) =
-              seq (comma_again 8 several (length b.0) e h) tt (giving (λ (p : Expr × State). (b.0 ++ p.0 ∷ [], p.1)) (t.again d final room (grown_then q.1 c.1 final r.grown g) n.0)) in
+        seq (comma_again 8 several (length b.0) e h) tt (giving (λ (p : Expr × State). (b.0 ++ p.0 ∷ [], p.1)) (t.again d final room (grown_then q.1 c.1 final r.grown g) n.0)) in
         item_then x (more_joins (expression_text (printed_leaves l final)) r.items) (r.again several (inl e) d final room g n.1)
 
 pub list_told : (l : Leaves) (several : Bool) (b c : List Expr × State) (f : List Tok) → Given f → Many (NextResult l several) b f c → ToldList l b c
@@ -120,7 +118,7 @@ row_of b p q r t u = record {
   grown = grown_then b.1 p.1 q.1 t.grown u.grown;
   fixed = fixed_then leaves.Parameters b.1 p.1 q.1 t.fixed u.fixed;
   again = λ d final room g m n. seq (t.again d final room (grown_then p.1 q.1 final u.grown g) m) (λ s c. relation_joins r (expression_text parameters q.0) true s)
-    (seq (relation_again r) tt (giving (λ (z : Expr × State). (b.0 ++ record { left = p.0; rel = r; right = z.0 } ∷ [], z.1)) (u.again d final room g n)));
+      (seq (relation_again r) tt (giving (λ (z : Expr × State). (b.0 ++ record { left = p.0; rel = r; right = z.0 } ∷ [], z.1)) (u.again d final room g n)));
 }
 
 pub row_told : (b c : List Constraint × State) (f : List Tok) → Given f → Row b f c → ToldRow b c
@@ -143,9 +141,9 @@ rows_more b m c h t r = record {
   grown = grown_then b.1 m.1 c.1 t.grown r.grown;
   fixed = fixed_then leaves.Parameters b.1 m.1 c.1 t.fixed r.fixed;
   again = λ d final room g n.
-    let x : Prints true (codes ", " ++ row_text t.row) (NextRow (b.0, moved leaves.Parameters d b.1)) (m.0, moved leaves.Parameters d m.1) = seq (comma_again 16 true (length b.0) refl h) tt (t.again d final room (grown_then m.1 c.1 final r.grown g) n.0 n.1) in
-    let y : Prints true (more_text row_text r.items) (Many NextRow (m.0, moved leaves.Parameters d m.1)) (c.0, moved leaves.Parameters d c.1) = r.again d final room g n.2 in
-    item_then {o = true} {m = true} {s = codes ", " ++ row_text t.row} {t = more_text row_text r.items} {L = NextRow} {b = (b.0, moved leaves.Parameters d b.1)} {c = (m.0, moved leaves.Parameters d m.1)} {d = (c.0, moved leaves.Parameters d c.1)} x (more_joins row_text r.items) y;
+      let x : Prints true (codes ", " ++ row_text t.row) (NextRow (b.0, moved leaves.Parameters d b.1)) (m.0, moved leaves.Parameters d m.1) = seq (comma_again 16 true (length b.0) refl h) tt (t.again d final room (grown_then m.1 c.1 final r.grown g) n.0 n.1) in
+      let y : Prints true (more_text row_text r.items) (Many NextRow (m.0, moved leaves.Parameters d m.1)) (c.0, moved leaves.Parameters d c.1) = r.again d final room g n.2 in
+      item_then {o = true} {m = true} {s = codes ", " ++ row_text t.row} {t = more_text row_text r.items} {L = NextRow} {b = (b.0, moved leaves.Parameters d b.1)} {c = (m.0, moved leaves.Parameters d m.1)} {d = (c.0, moved leaves.Parameters d c.1)} x (more_joins row_text r.items) y;
 }
 
 pub rows_told : (b c : List Constraint × State) (f : List Tok) → Given f → Many NextRow b f c → ToldRows b c

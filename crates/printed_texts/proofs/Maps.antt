@@ -1,26 +1,23 @@
 -- Maps and sets of a given text are spelled again.
-use Rattle.std.proofs.Common.{◌≡◌, ℕ, zero, suc, ◌+◌, ◌≤◌, ◌<◌, ◌==◌, ◌&&◌, ◌^◌, nat_lt, Bool, true, false, if◌then◌else◌, List, [], ◌∷◌, ◌++◌, length, Option, Some, None, codes, refl, sym, ap, ◌∙◌, subst, append_assoc, append-nil, inl, inr, ◌⊎◌, arith}
+use Rattle.std.proofs.Common.{◌≡◌, ℕ, suc, ◌+◌, ◌≤◌, ◌<◌, ◌^◌, nat_lt, Bool, true, false, List, [], ◌∷◌, ◌++◌, length, codes, refl, sym, ap, ◌∙◌, subst, append_assoc, inl, inr, ◌⊎◌, arith}
 use Rattle.std.proofs.lemmas.Bool.Decides.{nat_tests}
-use Rattle.readers.specs.Languages.{Lang, Nothing, One, Both, Either, Many, Giving, Enclosed}
-use Rattle.affine_lex.specs.declared.token.Kind.TheVariants as k
+use Rattle.readers.specs.Languages.{One, Many}
 use Rattle.affine_expr.specs.declared.expr.Expr.{Expr}
 use Rattle.affine_expr.specs.declared.map.Map.{Map}
 use Rattle.affine_expr.specs.declared.map.Set.{Set}
 use Rattle.affine_expr.specs.declared.map.Constraint.{Constraint}
-use Rattle.affine_ast.specs.declared.name.Name.{Name}
 use Rattle.affine_ast.specs.Spelling.{expression_text, parameters, row_text, listed, opening_text, parameters_text, results_text, rows_text}
 use Rattle.affine_grammar.specs.declared.words.State.{State}
 use Rattle.affine_grammar.specs.declared.words.Scope.{Scope}
-use Rattle.affine_grammar.specs.declared.words.Leaves.{Leaves}
 use Rattle.affine_grammar.specs.declared.words.Leaves.TheVariants as leaves
-use Rattle.affine_grammar.specs.Token.{Tok, sign, word, arrow}
-use Rattle.affine_grammar.specs.Grammar.{Result, NextResult, Results, Row, NextRow, Rows, over, map_with, Map0, set_with, Set0, Params}
+use Rattle.affine_grammar.specs.Token.{Tok, sign, arrow}
+use Rattle.affine_grammar.specs.Grammar.{Result, NextResult, Results, Row, NextRow, Rows, over, map_with, Map0, set_with, Set0}
 use Rattle.printed_texts.specs.Nesting.{AllNest, RowsNest}
-use Rattle.printed_texts.proofs.Pieces.{tok, ends, Joins, Prints, seq, prints_as, giving, loosen, blank_before, blank_behind}
+use Rattle.printed_texts.proofs.Pieces.{Prints, seq, prints_as, giving, blank_before, blank_behind}
 use Rattle.printed_texts.proofs.Marks.{keyword, arrow_piece, less_sign, greater_sign, colon_sign}
 use Rattle.printed_texts.proofs.Given.{Given, given_left, given_right}
 use Rattle.printed_texts.proofs.Places.{parens}
-use Rattle.printed_texts.proofs.States.{params, Grown, grown_same, grown_then, printed_leaves, moved, Room, Fixed, fixed_then}
+use Rattle.printed_texts.proofs.States.{params, Grown, grown_same, grown_then, moved, Room, Fixed, fixed_then}
 use Rattle.printed_texts.proofs.Expressions.{ToldExpression, expression_told}
 use Rattle.printed_texts.proofs.Lists.{more_text, more_joins, ToldList, list_told, ToldRow, row_told, ToldRows, rows_told}
 use Rattle.printed_texts.proofs.Params.{length_params, scope_of, params_again, FewNames, params_told}
@@ -52,9 +49,9 @@ results_of s p b t r = record {
     again several c d room n =
         let m : AllNest (p.0 ∷ r.items) = subst AllNest r.items_are n in
         let x : Prints true (expression_text parameters p.0) (Result leaves.Parameters ([], moved leaves.Parameters d s)) (p.0 ∷ [], moved leaves.Parameters d p.1) =
-              giving (λ (q : Expr × State). (q.0 ∷ [], q.1)) (t.again d b.1 room r.grown m.0) in
+        giving (λ (q : Expr × State). (q.0 ∷ [], q.1)) (t.again d b.1 room r.grown m.0) in
         let y : Prints true (more_text (expression_text parameters) r.items) (Many (NextResult leaves.Parameters several) (p.0 ∷ [], moved leaves.Parameters d p.1)) (b.0, moved leaves.Parameters d b.1) =
-              r.again several c d b.1 room (grown_same b.1) m.1 in
+        r.again several c d b.1 room (grown_same b.1) m.1 in
         let e : expression_text parameters p.0 ++ more_text (expression_text parameters) r.items ≡ listed (expression_text parameters) b.0 = ap (λ l. listed (expression_text parameters) l) (sym r.items_are) in
         parens (prints_as (seq x (more_joins (expression_text parameters) r.items) y) e)
 

@@ -1,21 +1,19 @@
 -- Single tokens of printed texts.
-use Rattle.std.proofs.Common.{◌≡◌, ℕ, zero, suc, ◌==◌, ◌&&◌, ◌||◌, ◌≤◌, ◌<◌, ◌^◌, not, Bool, true, false, cond, if◌then◌else◌, List, [], ◌∷◌, ◌++◌, slice_index, length, Option, Some, None, decimal, refl, sym, ap, ◌∙◌, subst, append_assoc, ◌⊎◌, inl, inr, bytes_eq, codes, arith}
+use Rattle.std.proofs.Common.{◌≡◌, ℕ, ◌==◌, ◌&&◌, ◌||◌, ◌≤◌, ◌<◌, ◌^◌, not, Bool, true, false, cond, if◌then◌else◌, List, [], ◌∷◌, ◌++◌, slice_index, length, Option, Some, None, decimal, refl, sym, ap, subst, ◌⊎◌, inl, inr, bytes_eq, codes, arith}
 use Rattle.std.proofs.lemmas.Bool.Decides.{nat_tests}
-use Rattle.std.proofs.lemmas.Slice.Eq.{bytes_eq-Decides}
 use Rattle.std.proofs.lemmas.Str.Parse.{digit_from_value}
 use Rattle.std.proofs.lemmas.Fmt.{decimal_is_IsNumeral_wide}
 use Rattle.std.specs.Char.{is_ascii_digit}
 use Rattle.std.specs.Str.Parse.{digits_value, AllDigits}
 use Rattle.readers.specs.Languages.{Lang, One, Both}
-use Rattle.readers.proofs.Texts.{token_text}
 use Rattle.affine_lex.specs.Classes.{is_sign}
 use Rattle.affine_lex.specs.Scan.{after_word}
 use Rattle.affine_lex.specs.Tokens.{IsId, IsDigits, HasForm}
 use Rattle.affine_lex.specs.declared.token.Kind.TheVariants as k
-use Rattle.affine_lex.proofs.Tests.{true_no, and_left, and_right, eq_true}
+use Rattle.affine_lex.proofs.Tests.{true_no, and_left, and_right}
 use Rattle.affine_lex.proofs.Written.{AreCut, cut_token, word_again, value_again, value_digits_again, symbol_again, int_again, sign_again, arrow_again, greater_equal_again, less_equal_again, equal_again, is_pair}
 use Rattle.affine_grammar.specs.Token.{Tok, sign, word}
-use Rattle.printed_texts.proofs.Pieces.{tok, ends, is_word_first, is_word_byte, is_id_byte, is_white, Cuts, Closes, Prints, piece, recast, tight_sign}
+use Rattle.printed_texts.proofs.Pieces.{tok, ends, is_word_first, is_word_byte, is_id_byte, is_white, Cuts, Closes, Prints, piece, tight_sign}
 
 -- ---- what ends a token
 

@@ -1,41 +1,37 @@
 -- Functions and modules are spelled again.
-use Rattle.std.proofs.Common.{◌≡◌, ℕ, zero, suc, ◌+◌, ◌≤◌, ◌<◌, ◌==◌, ◌&&◌, ◌^◌, ℤ, Bool, true, false, List, [], ◌∷◌, ◌++◌, map, length, Option, Some, None, codes, refl, sym, ap, ◌∙◌, subst, append_assoc, append-nil, inl, inr, ◌⊎◌, arith}
+use Rattle.std.proofs.Common.{◌≡◌, ℕ, ℤ, Bool, true, false, List, [], ◌∷◌, ◌++◌, map, Option, Some, None, codes, refl, sym, ap, ◌∙◌, subst, append_assoc, append-nil, inl, inr, arith}
 use Rattle.std.specs.Fmt.{signed_decimal}
-use Rattle.readers.specs.Languages.{Lang, Nothing, One, Both, Either, Many, none, more, Giving, Optional, Ended, Enclosed, Listed}
+use Rattle.readers.specs.Languages.{Lang, One, Both, Many, none, more, Giving, Optional, Ended, Enclosed, Listed}
 use Rattle.readers.proofs.Texts.{giving_text}
 use Rattle.affine_lex.specs.Scan.{after_word}
 use Rattle.affine_lex.specs.Tokens.{IsId}
 use Rattle.affine_lex.proofs.Written.{Piece, AreCut, cut_blank}
 use Rattle.affine_expr.specs.declared.map.Interval.{Interval}
 use Rattle.affine_ast.specs.declared.name.Name.{Name}
-use Rattle.affine_ast.specs.declared.types.MemrefType.{MemrefType}
 use Rattle.affine_ast.specs.declared.stmt.Stmt.{Stmt}
-use Rattle.affine_ast.specs.declared.stmt.What.{What}
 use Rattle.affine_ast.specs.declared.stmt.What.TheVariants as what
 use Rattle.affine_ast.specs.declared.module.Arg.{Arg}
 use Rattle.affine_ast.specs.declared.module.ArgKind.{ArgKind}
 use Rattle.affine_ast.specs.declared.module.ArgKind.TheVariants as kind
 use Rattle.affine_ast.specs.declared.module.Module.{Module}
 use Rattle.affine_ast.specs.Nest.{nest}
-use Rattle.affine_ast.specs.Spelling.{name_text, listed, lines, line_text, statement_text, arg_text, args_text, kind_text, range_text, pair_text, memref_text, head_text, spelling}
+use Rattle.affine_ast.specs.Spelling.{name_text, listed, lines, line_text, arg_text, args_text, kind_text, range_text, pair_text, head_text, spelling}
 use Rattle.affine_ast.proofs.Spellings.{lines-append, lines-cons, lines-nil, statement-Return}
 use Rattle.affine_grammar.specs.declared.words.Alias.{Alias}
 use Rattle.affine_grammar.specs.declared.words.Body.{Body}
-use Rattle.affine_grammar.specs.declared.words.Body.TheVariants as body
-use Rattle.affine_grammar.specs.Token.{Tok, sign, word, value, lined, with_line, function_name}
-use Rattle.affine_grammar.specs.Grammar.{Memref, Signed, Map0, Set0}
+use Rattle.affine_grammar.specs.Token.{Tok, sign, word, value, lined, with_line}
 use Rattle.affine_grammar.specs.GrammarFile.{RangeEnd, Range, ArgumentKind, Argument, NextArgument, Arguments, Statements, Region, FunctionBody, Function, AliasBody, AliasDefinition, ModuleOf, File}
 use Rattle.printed_texts.specs.Nesting.{StatementsNest, ModuleNests}
-use Rattle.printed_texts.specs.Lines.{unlined, unlined_argument, AreSameButLines}
-use Rattle.printed_texts.proofs.Pieces.{tok, Are, Parted, parted, ends, Closes, Joins, Cuts, join_cut, Prints, seq, prints_as, in_left, in_right, giving, nothing, no_item, loosen, blank_before, blank_behind}
+use Rattle.printed_texts.specs.Lines.{unlined_argument, AreSameButLines}
+use Rattle.printed_texts.proofs.Pieces.{Are, parted, Joins, Cuts, join_cut, Prints, seq, prints_as, in_left, in_right, giving, nothing, loosen, blank_before, blank_behind}
 use Rattle.printed_texts.proofs.Marks.{keyword, equals_sign, open_brace, close_brace, open_paren, close_paren, open_square, close_square, comma_sign, colon_sign}
-use Rattle.printed_texts.proofs.Given.{Given, IsGiven, IsWritten, given_left, given_right, given_one, value_given, value_prints, function_given, function_prints}
+use Rattle.printed_texts.proofs.Given.{Given, IsWritten, given_left, given_right, given_one, value_given, value_prints, function_given, function_prints}
 use Rattle.printed_texts.proofs.Lists.{more_text, more_joins}
-use Rattle.printed_texts.proofs.Maps.{ToldMap, map_told, ToldSet, set_told}
+use Rattle.printed_texts.proofs.Maps.{map_told, set_told}
 use Rattle.printed_texts.proofs.Uses.{BodyTold, AliasesTold}
 use Rattle.printed_texts.proofs.Types.{InRange, signed_told, signed_again, TypeTold, memref_told, memref_again}
 use Rattle.printed_texts.proofs.Unlined.{SameStatements, same_append, append_nests, same_cons}
-use Rattle.printed_texts.proofs.Blocks.{Writes, writes_seq, writes_giving, writes_as, writes_blank, AllWhite, LinesPrints, ToldLines, statements_told, region_told, opening, closing, margin_cut, lined_some}
+use Rattle.printed_texts.proofs.Blocks.{Writes, writes_seq, writes_as, writes_blank, AllWhite, LinesPrints, ToldLines, statements_told, region_told, opening, closing, margin_cut, lined_some}
 
 -- ---- aliases
 
@@ -144,11 +140,11 @@ range_again : (r : Interval) → InRange r.least → InRange r.greatest → Prin
 unfolding range_text pair_text
 range_again r a b =
     let pair : Prints true (signed_decimal r.least ++ (codes ", " ++ signed_decimal r.greatest)) (Both RangeEnd (λ a. Both (One (sign 44)) (λ _. Giving RangeEnd (λ b. Some (record { least = a; greatest = b }))))) (Some r) =
-          seq (range_end_again r.least a) (λ s c. refl) (seq (blank_behind comma_sign) tt (giving (λ b. Some (record { least = r.least; greatest = b })) (range_end_again r.greatest b))) in
+    seq (range_end_again r.least a) (λ s c. refl) (seq (blank_behind comma_sign) tt (giving (λ b. Some (record { least = r.least; greatest = b })) (range_end_again r.greatest b))) in
     let squares : Prints false (codes "[" ++ ((signed_decimal r.least ++ (codes ", " ++ signed_decimal r.greatest)) ++ codes "]")) (Enclosed (sign 91) (sign 93) (Both RangeEnd (λ a. Both (One (sign 44)) (λ _. Giving RangeEnd (λ b. Some (record { least = a; greatest = b })))))) (Some r) =
-          seq open_square tt (seq pair (λ s c. refl) (giving (λ _. Some r) close_square)) in
+    seq open_square tt (seq pair (λ s c. refl) (giving (λ _. Some r) close_square)) in
     let whole : Prints false (32 ∷ (codes "{" ++ (codes "copy.range" ++ (codes " = " ++ ((codes "[" ++ ((signed_decimal r.least ++ (codes ", " ++ signed_decimal r.greatest)) ++ codes "]")) ++ codes "}"))))) (Optional Range None) (Some r) =
-          blank_before (in_left (seq open_brace tt (seq (keyword (codes "copy.range") refl refl) (λ s c. refl) (seq (blank_before (blank_behind equals_sign)) tt (seq squares tt (giving (λ _. Some r) close_brace)))))) in
+    blank_before (in_left (seq open_brace tt (seq (keyword (codes "copy.range") refl refl) (λ s c. refl) (seq (blank_before (blank_behind equals_sign)) tt (seq squares tt (giving (λ _. Some r) close_brace)))))) in
     prints_as whole (simp append_assoc refl)
 
 kind_again : (k : ArgKind) → KindTold k → Prints true (kind_text k) ArgumentKind k
@@ -176,7 +172,7 @@ argument_again : (a : Arg) → ArgTold a → ArgumentPrints a
 unfolding arg_text
 argument_again a t =
     let p : Prints true (name_text a.name ++ (codes ": " ++ kind_text a.kind)) NamedKind (a.name, a.kind) =
-          seq (value_prints a.name t.name) (λ r c. refl) (seq (blank_behind colon_sign) tt (giving (λ k. let x : Name × ArgKind = (a.name, k) in x) (kind_again a.kind t.kind))) in
+    seq (value_prints a.name t.name) (λ r c. refl) (seq (blank_behind colon_sign) tt (giving (λ k. let x : Name × ArgKind = (a.name, k) in x) (kind_again a.kind t.kind))) in
     record { pieces = p.pieces; cut = p.cut; spelled = λ us h acc. relined us acc (p.spelled us h) }
   where
     relined : (us : List Tok) (acc : List Arg) → NamedKind us (a.name, a.kind) → SpelledArgument a us acc
@@ -222,16 +218,16 @@ more_again (x ∷ args) t =
       pieces = (comma.pieces ++ p.pieces) ++ q.pieces;
       cut = join_cut true true (codes ", " ++ arg_text x) (more_text arg_text args) (comma.pieces ++ p.pieces) q.pieces (join_cut false true (codes ", ") (arg_text x) comma.pieces p.pieces comma.cut tt p.cut) (more_joins arg_text args) q.cut;
       spelled = λ us a acc.
-        let i = parted (comma.pieces ++ p.pieces) q.pieces us a in
-        let j = parted comma.pieces p.pieces i.left i.first in
-        let y = p.spelled j.right j.second acc in
-        let z = q.spelled i.right i.second (acc ++ y.arg ∷ []) in
-        let item : NextArgument acc i.left (acc ++ y.arg ∷ []) = record { value = tt; left = j.left; right = j.right; parts = j.parts; first = comma.spelled j.left j.first; second = y.spelled } in
-        record {
-          stands = y.arg ∷ z.stands;
-          same = ap (λ m. m ∷ map unlined_argument args) y.same ∙ ap (λ l. unlined_argument y.arg ∷ l) z.same;
-          spelled = subst (λ l. Many NextArgument acc us l) (append_assoc acc (y.arg ∷ []) z.stands) (more acc (acc ++ y.arg ∷ []) ((acc ++ y.arg ∷ []) ++ z.stands) us i.left i.right i.parts item z.spelled);
-        };
+          let i = parted (comma.pieces ++ p.pieces) q.pieces us a in
+          let j = parted comma.pieces p.pieces i.left i.first in
+          let y = p.spelled j.right j.second acc in
+          let z = q.spelled i.right i.second (acc ++ y.arg ∷ []) in
+          let item : NextArgument acc i.left (acc ++ y.arg ∷ []) = record { value = tt; left = j.left; right = j.right; parts = j.parts; first = comma.spelled j.left j.first; second = y.spelled } in
+          record {
+            stands = y.arg ∷ z.stands;
+            same = ap (λ m. m ∷ map unlined_argument args) y.same ∙ ap (λ l. unlined_argument y.arg ∷ l) z.same;
+            spelled = subst (λ l. Many NextArgument acc us l) (append_assoc acc (y.arg ∷ []) z.stands) (more acc (acc ++ y.arg ∷ []) ((acc ++ y.arg ∷ []) ++ z.stands) us i.left i.right i.parts item z.spelled);
+          };
     }
 
 abbrev SameArguments : List Arg → List Arg → Type 0
@@ -251,20 +247,25 @@ arguments_again (x ∷ args) t =
       pieces = pieces ++ close_paren.pieces;
       cut = join_cut true false (arg_text x ++ more_text arg_text args) (codes ")") pieces close_paren.pieces cut (λ r c. refl) close_paren.cut;
       spelled = λ us a.
-        let i = parted pieces close_paren.pieces us a in
-        let j = parted p.pieces q.pieces i.left i.first in
-        let y = p.spelled j.left j.first [] in
-        let z = q.spelled j.right j.second (y.arg ∷ []) in
-        let stands : List Arg = y.arg ∷ z.stands in
-        let e : SameArguments (x ∷ args) stands = ap (λ m. m ∷ map unlined_argument args) y.same ∙ ap (λ l. unlined_argument y.arg ∷ l) z.same in
-        (stands, (e, inr (record {
-          value = stands;
-          left = i.left;
-          right = i.right;
-          parts = i.parts;
-          first = record { value = y.arg ∷ []; left = j.left; right = j.right; parts = j.parts; first = y.spelled; second = z.spelled };
-          second = giving_text (λ _. stands) i.right tt (close_paren.spelled i.right i.second);
-        })));
+          let i = parted pieces close_paren.pieces us a in
+          let j = parted p.pieces q.pieces i.left i.first in
+          let y = p.spelled j.left j.first [] in
+          let z = q.spelled j.right j.second (y.arg ∷ []) in
+          let stands : List Arg = y.arg ∷ z.stands in
+          let e : SameArguments (x ∷ args) stands = ap (λ m. m ∷ map unlined_argument args) y.same ∙ ap (λ l. unlined_argument y.arg ∷ l) z.same in (
+            stands,
+            (
+              e,
+              inr (record {
+                value = stands;
+                left = i.left;
+                right = i.right;
+                parts = i.parts;
+                first = record { value = y.arg ∷ []; left = j.left; right = j.right; parts = j.parts; first = y.spelled; second = z.spelled };
+                second = giving_text (λ _. stands) i.right tt (close_paren.spelled i.right i.second);
+              }),
+            ),
+          );
     })
 
 -- ---- the body of the function
@@ -274,9 +275,9 @@ writes_ended {o = o} {m = m} {a = a} {b = b} {y = y} p j q = record {
   pieces = p.pieces ++ q.pieces;
   cut = join_cut o m a b p.pieces q.pieces p.cut j q.cut;
   spelled = λ us h.
-    let i = parted p.pieces q.pieces us h in
-    let x = p.spelled i.left i.first in
-    (x.0, (x.1.0, record { value = x.0; left = i.left; right = i.right; parts = i.parts; first = x.1.1; second = giving_text (λ _. x.0) i.right y (q.spelled i.right i.second) }));
+      let i = parted p.pieces q.pieces us h in
+      let x = p.spelled i.left i.first in
+      (x.0, (x.1.0, record { value = x.0; left = i.left; right = i.right; parts = i.parts; first = x.1.1; second = giving_text (λ _. x.0) i.right y (q.spelled i.right i.second) }));
 }
 
 abbrev returning : ℕ → Stmt
@@ -305,20 +306,25 @@ returned_again margin ss line after white p = record {
   pieces = p.pieces ++ return_word.pieces;
   cut = subst (λ b. Cuts false b (p.pieces ++ return_word.pieces)) (sym (return_lines margin ss line)) (join_cut false false (lines margin (nest ss)) (line_text margin (codes "return")) p.pieces return_word.pieces p.cut tt (return_cut margin white));
   spelled = λ us a.
-    let i = parted p.pieces return_word.pieces us a in
-    let y = p.spelled i.left i.first [] in
-    let r = return_word.spelled i.right i.second in
-    let n = r.token.token.line in
-    let ts : List Stmt = y.stmts ++ returning n ∷ [] in
-    let w : One (lined (word (codes "return"))) i.right (n, tt) = record { token = r.token; alone = r.alone; accepted = ap (with_line n) r.accepted } in
-    (ts, (same_append ss y.stmts (returning line ∷ []) (returning n ∷ []) y.same (same_cons (returning line) (returning n) [] [] refl refl), record {
-      value = (y.stmts, after);
-      left = i.left;
-      right = i.right;
-      parts = i.parts;
-      first = y.spelled;
-      second = giving_text (λ (l : ℕ × Unit {0}). y.stmts ++ returning l.0 ∷ []) i.right (n, tt) w;
-    }));
+      let i = parted p.pieces return_word.pieces us a in
+      let y = p.spelled i.left i.first [] in
+      let r = return_word.spelled i.right i.second in
+      let n = r.token.token.line in
+      let ts : List Stmt = y.stmts ++ returning n ∷ [] in
+      let w : One (lined (word (codes "return"))) i.right (n, tt) = record { token = r.token; alone = r.alone; accepted = ap (with_line n) r.accepted } in (
+        ts,
+        (
+          same_append ss y.stmts (returning line ∷ []) (returning n ∷ []) y.same (same_cons (returning line) (returning n) [] [] refl refl),
+          record {
+            value = (y.stmts, after);
+            left = i.left;
+            right = i.right;
+            parts = i.parts;
+            first = y.spelled;
+            second = giving_text (λ (l : ℕ × Unit {0}). y.stmts ++ returning l.0 ∷ []) i.right (n, tt) w;
+          },
+        ),
+      );
 }
 
 abbrev four : List ℕ
@@ -375,11 +381,11 @@ args_body m p r =
       pieces = p.pieces ++ q.pieces;
       cut = join_cut false false (codes "(" ++ (listed arg_text m.args ++ codes ")")) (32 ∷ (codes "{\n" ++ (lines four (nest m.body) ++ codes "  }"))) p.pieces q.pieces p.cut tt q.cut;
       spelled = λ us a.
-        let i = parted p.pieces q.pieces us a in
-        let x = p.spelled i.left i.first in
-        let y = q.spelled i.right i.second in
-        let n : Module = record { name = m.name; args = x.0; body = y.0 } in
-        (n, (record { name = refl; args = x.1.0; body = y.1.0 }, record { value = x.0; left = i.left; right = i.right; parts = i.parts; first = x.1.1; second = giving_text (λ (ss : List Stmt). let o : Module = record { name = m.name; args = x.0; body = ss } in o) i.right y.0 y.1.1 }));
+          let i = parted p.pieces q.pieces us a in
+          let x = p.spelled i.left i.first in
+          let y = q.spelled i.right i.second in
+          let n : Module = record { name = m.name; args = x.0; body = y.0 } in
+          (n, (record { name = refl; args = x.1.0; body = y.1.0 }, record { value = x.0; left = i.left; right = i.right; parts = i.parts; first = x.1.1; second = giving_text (λ (ss : List Stmt). let o : Module = record { name = m.name; args = x.0; body = ss } in o) i.right y.0 y.1.1 }));
     }
 
 -- ---- the file
@@ -406,10 +412,10 @@ module_again m t n =
     let args = arguments_again m.args t.args in
     let name = function_prints m.name t.name in
     let function : Writes false (codes "func.func" ++ (32 ∷ ((64 ∷ m.name) ++ ((codes "(" ++ (listed arg_text m.args ++ codes ")")) ++ (32 ∷ (codes "{\n" ++ (lines four (nest m.body) ++ codes "  }"))))))) (Function []) (Same m) =
-          writes_seq (keyword (codes "func.func") refl refl) (λ r c. refl) (writes_blank (writes_seq name (λ r c. refl) (args_body m args inner))) in
+    writes_seq (keyword (codes "func.func") refl refl) (λ r c. refl) (writes_blank (writes_seq name (λ r c. refl) (args_body m args inner))) in
     let wrapped = writes_seq (keyword (codes "module") refl refl) (λ r c. refl) (writes_blank (writes_seq module_opening tt (writes_ended function tt module_closing))) in
     let file : Writes false (codes "module" ++ (32 ∷ (codes "{\n  " ++ ((codes "func.func" ++ (32 ∷ ((64 ∷ m.name) ++ ((codes "(" ++ (listed arg_text m.args ++ codes ")")) ++ (32 ∷ (codes "{\n" ++ (lines four (nest m.body) ++ codes "  }"))))))) ++ codes "\n}\n")))) File (Same m) =
-          record { pieces = wrapped.pieces; cut = wrapped.cut; spelled = λ us a. let y = wrapped.spelled us a in (y.0, (y.1.0, record { value = []; left = []; right = us; parts = refl; first = none [] [] refl; second = inl y.1.1 })) } in
+    record { pieces = wrapped.pieces; cut = wrapped.cut; spelled = λ us a. let y = wrapped.spelled us a in (y.0, (y.1.0, record { value = []; left = []; right = us; parts = refl; first = none [] [] refl; second = inl y.1.1 })) } in
     writes_as file (module_pieces m.name (listed arg_text m.args) (lines four (nest m.body)))
 
 -- what a text spells, the printed spelling of it spells again

@@ -1,21 +1,19 @@
 -- The parameters of printed maps and sets, and those of a given text.
-use Rattle.std.proofs.Common.{◌≡◌, ℕ, zero, suc, ◌+◌, ◌≤◌, ◌<◌, ◌==◌, ◌&&◌, ◌^◌, Bool, true, false, if◌then◌else◌, List, [], ◌∷◌, ◌++◌, length, Option, Some, None, decimal, flat_map, codes, refl, sym, ap, ◌∙◌, subst, append_assoc, append-nil, length-append, inl, inr, ◌⊎◌, arith}
+use Rattle.std.proofs.Common.{◌≡◌, ℕ, zero, suc, ◌+◌, ◌≤◌, ◌<◌, ◌==◌, ◌&&◌, ◌^◌, Bool, true, false, if◌then◌else◌, List, [], ◌∷◌, ◌++◌, length, Option, Some, None, decimal, codes, refl, sym, ap, ◌∙◌, subst, append_assoc, length-append, inl, inr, arith}
 use Rattle.std.proofs.lemmas.Bool.Decides.{nat_tests}
-use Rattle.std.specs.List.{join_by, range_with_len}
+use Rattle.std.specs.List.{range_with_len}
 use Rattle.std.specs.Char.{is_ascii}
 use Rattle.std.specs.Str.{bytes_eq}
-use Rattle.readers.specs.Languages.{Lang, Nothing, One, Both, Either, Many, none, more, Giving, Optional, Listed}
-use Rattle.affine_lex.specs.declared.token.Kind.TheVariants as k
+use Rattle.readers.specs.Languages.{One, Many, none, more, Optional}
 use Rattle.affine_ast.specs.declared.name.Name.{Name}
 use Rattle.affine_ast.specs.Spelling.{listed, numbered_text, symbols_text, parameters_text}
-use Rattle.affine_grammar.specs.declared.words.State.{State}
 use Rattle.affine_grammar.specs.declared.words.Scope.{Scope}
-use Rattle.affine_grammar.specs.Token.{Tok, class, sign, fresh, new_in, number_of, next, named, string_of, all_ascii, is_there, of_keyword}
+use Rattle.affine_grammar.specs.Token.{Tok, sign, fresh, number_of, next, named, all_ascii, is_there}
 use Rattle.affine_grammar.specs.Grammar.{Parameter, NextParameter, ParameterList, SymbolList, Params}
 use Rattle.affine_grammar.proofs.Names.{string_is}
-use Rattle.printed_texts.proofs.Pieces.{tok, ends, Prints, seq, prints_as, in_left, in_right, giving, nothing, no_item, item_then, recast, loosen, is_word_first, blank_behind}
-use Rattle.printed_texts.proofs.Marks.{word_piece, is_keyword, open_paren, close_paren, open_square, close_square, comma_sign, decimal_digits}
-use Rattle.printed_texts.proofs.Given.{Given, given_left, given_right, name_ascii}
+use Rattle.printed_texts.proofs.Pieces.{ends, Prints, seq, prints_as, in_left, in_right, giving, nothing, no_item, item_then, is_word_first, blank_behind}
+use Rattle.printed_texts.proofs.Marks.{word_piece, open_paren, close_paren, open_square, close_square, comma_sign, decimal_digits}
+use Rattle.printed_texts.proofs.Given.{Given, name_ascii}
 use Rattle.printed_texts.proofs.States.{param, params, params_snoc, param_none, symbol_none}
 use Rattle.printed_texts.proofs.Leaves.{param_word}
 use Rattle.printed_texts.proofs.Lists.{more_text, more_joins}
@@ -74,10 +72,10 @@ module _ (letter : ℕ) (before : List Name) (l : Lettered letter before) where
   parameters_again (suc k) i h =
       let f : ℕ → List ℕ = λ n. letter ∷ decimal n in
       let x : Prints true (codes ", " ++ f i) (NextParameter before (params letter 0 i)) (params letter 0 (i + 1)) =
-            subst (λ v. Prints true (codes ", " ++ f i) (NextParameter before (params letter 0 i)) v) (next_snoc i) (seq (blank_behind comma_sign) tt (parameter_again i (omega (arith, h)))) in
+      subst (λ v. Prints true (codes ", " ++ f i) (NextParameter before (params letter 0 i)) v) (next_snoc i) (seq (blank_behind comma_sign) tt (parameter_again i (omega (arith, h)))) in
       let e : i + 1 + k ≡ i + suc k = omega arith in
       let y : Prints true (more_text f (range_with_len (i + 1) k)) (Many (NextParameter before) (params letter 0 (i + 1))) (params letter 0 (i + suc k)) =
-            subst (λ m. Prints true (more_text f (range_with_len (i + 1) k)) (Many (NextParameter before) (params letter 0 (i + 1))) (params letter 0 m)) e (parameters_again k (i + 1) (omega (arith, h))) in
+      subst (λ m. Prints true (more_text f (range_with_len (i + 1) k)) (Many (NextParameter before) (params letter 0 (i + 1))) (params letter 0 m)) e (parameters_again k (i + 1) (omega (arith, h))) in
       item_then {L = NextParameter before} {b = params letter 0 i} {c = params letter 0 (i + 1)} {d = params letter 0 (i + suc k)} x (more_joins f (range_with_len (i + 1) k)) y
 
   -- all parameters, and the sign that closes them
@@ -90,7 +88,7 @@ module _ (letter : ℕ) (before : List Name) (l : Lettered letter before) where
       let z : 0 + 1 ≡ 1 = omega arith in
       let first : Prints true (f 0) (Parameter before []) (params letter 0 1) = parameter_again 0 (omega arith) in
       let rest : Prints true (more_text f (range_with_len (0 + 1) n)) (Many (NextParameter before) (params letter 0 1)) (params letter 0 (suc n)) =
-            subst (λ m. Prints true (more_text f (range_with_len (0 + 1) n)) (Many (NextParameter before) (params letter 0 1)) (params letter 0 m)) q (parameters_again n 1 (omega (arith, h))) in
+      subst (λ m. Prints true (more_text f (range_with_len (0 + 1) n)) (Many (NextParameter before) (params letter 0 1)) (params letter 0 m)) q (parameters_again n 1 (omega (arith, h))) in
       in_right (seq (seq first (more_joins f (range_with_len (0 + 1) n)) rest) (λ r i. e r) (giving (λ _. params letter 0 (suc n)) c))
 
 -- ---- the parameters of a map or set
@@ -131,8 +129,19 @@ list_names close before c f (inr h) =
     let i = h.first in
     let p = i.first in
     let r = names_told before i.value h.value i.right i.second in
-    omega (arith, r, ap (λ (l : List Name). length l) h.second.second.1, ap (λ (l : List Tok). length l) h.parts, length-append h.left h.right, ap (λ (l : List Tok). length l) i.parts, length-append i.left i.right,
-    ap (λ (l : List Name). length l) p.second.1, ap (λ (l : List Tok). length l) p.parts, length-append p.left p.right, ap (λ (l : List Tok). length l) p.first.alone)
+    omega (
+      arith,
+      r,
+      ap (λ (l : List Name). length l) h.second.second.1,
+      ap (λ (l : List Tok). length l) h.parts,
+      length-append h.left h.right,
+      ap (λ (l : List Tok). length l) i.parts,
+      length-append i.left i.right,
+      ap (λ (l : List Name). length l) p.second.1,
+      ap (λ (l : List Tok). length l) p.parts,
+      length-append p.left p.right,
+      ap (λ (l : List Tok). length l) p.first.alone,
+    )
 
 -- the parameters can be numbered
 pub record FewNames (names : Scope) : Type 0 where

@@ -1,18 +1,14 @@
 -- Bytes that are cut into the tokens that spell a value.
-use Rattle.std.proofs.Common.{◌≡◌, ℕ, zero, suc, ◌==◌, ◌&&◌, ◌||◌, ◌≤◌, ◌^◌, not, Bool, true, false, cond, if◌then◌else◌, List, [], ◌∷◌, ◌++◌, slice_index, length, Option, Some, None, refl, sym, ap, ◌∙◌, subst, append_assoc, append-nil, ◌⊎◌, inl, inr, bytes_eq, codes, arith}
-use Rattle.std.proofs.lemmas.Bool.Decides.{nat_tests}
-use Rattle.std.specs.Str.Parse.{digits_value}
+use Rattle.std.proofs.Common.{◌≡◌, ℕ, ◌==◌, ◌&&◌, ◌||◌, not, Bool, true, false, if◌then◌else◌, List, [], ◌∷◌, ◌++◌, slice_index, Option, Some, None, refl, ap, ◌∙◌, subst, append_assoc, append-nil, inl, inr}
 use Rattle.readers.specs.Languages.{Lang, Nothing, One, Both, Either, Many, none, more, Giving}
 use Rattle.readers.proofs.Texts.{giving_text}
 use Rattle.affine_lex.specs.Classes.{is_sign}
 use Rattle.affine_lex.specs.Scan.{after_word}
-use Rattle.affine_lex.specs.Tokens.{IsId, IsDigits, HasForm}
-use Rattle.std.specs.Char.{is_ascii_digit, is_ascii_alphabetic, is_ascii_alphanumeric}
+use Rattle.std.specs.Char.{is_ascii_alphabetic, is_ascii_alphanumeric}
 use Rattle.affine_lex.specs.declared.token.Kind.{Kind}
 use Rattle.affine_lex.specs.declared.token.Kind.TheVariants as k
-use Rattle.affine_lex.proofs.Tests.{true_no, and_left, and_right}
-use Rattle.affine_lex.proofs.Written.{Piece, AreCut, cut_blank, cut_token, word_again, value_again, value_digits_again, symbol_again, int_again, sign_again, arrow_again, greater_equal_again, less_equal_again, equal_again, is_pair}
-use Rattle.affine_grammar.specs.Token.{Tok, sign, word}
+use Rattle.affine_lex.proofs.Written.{Piece, AreCut, cut_blank, cut_token, sign_again, is_pair}
+use Rattle.affine_grammar.specs.Token.{Tok, sign}
 
 -- ---- tokens of given kinds and texts
 

@@ -1,8 +1,8 @@
 -- The places in which an expression may stand, and how its spelling in each is put together.
-use Rattle.std.proofs.Common.{◌≡◌, ℕ, zero, suc, max, ◌≤◌, ◌<◌, ◌==◌, ◌||◌, ◌^◌, ℤ, pos, negsuc, neg_ℤ, Bool, true, false, List, [], ◌∷◌, ◌++◌, slice_index, Some, decimal, codes, refl, sym, ap, ◌∙◌, subst, append_assoc, inl, inr, arith}
+use Rattle.std.proofs.Common.{◌≡◌, ℕ, zero, suc, ◌≤◌, ◌<◌, ◌==◌, ◌^◌, pos, negsuc, true, false, List, [], ◌∷◌, ◌++◌, decimal, codes, refl, ap, ◌∙◌, append_assoc, inl, arith}
 use Rattle.std.proofs.lemmas.Bool.Decides.{nat_tests}
 use Rattle.std.specs.Char.{is_ascii_digit}
-use Rattle.readers.specs.Languages.{Lang, Nothing, One, Both, Either, Many, Enclosed}
+use Rattle.readers.specs.Languages.{Lang, One, Both, Many, Enclosed}
 use Rattle.readers.proofs.Texts.{many_snoc, chain_one}
 use Rattle.affine_lex.specs.Scan.{after_word}
 use Rattle.affine_lex.specs.Tokens.{IsDigits}
@@ -15,10 +15,10 @@ use Rattle.affine_grammar.specs.declared.words.Leaves.{Leaves}
 use Rattle.affine_grammar.specs.declared.words.Operator.{Operator}
 use Rattle.affine_grammar.specs.declared.words.Operator.TheVariants as operator
 use Rattle.affine_grammar.specs.Token.{Tok, sign, sum_op, product_op, product_word, joined, number, negative_number}
-use Rattle.affine_grammar.specs.Grammar.{Spelling, Factor, Product, Summand, Sum, UnaryOf, Other, Unary}
+use Rattle.affine_grammar.specs.Grammar.{Spelling, Factor, Product, Summand, Sum, Other, Unary}
 use Rattle.printed_texts.specs.Nesting.{Depths, sum_depths, product_depths, unary_depths, literal_depths}
-use Rattle.printed_texts.proofs.Pieces.{tok, ends, Closes, Cuts, Prints, seq, prints_as, loosen, recast, in_left, in_right, giving, piece, blank_before, blank_behind, tight_sign}
-use Rattle.printed_texts.proofs.Marks.{NoArrow, open_paren, close_paren, minus_then, word_piece, number_piece, tight_piece, decimal_digits}
+use Rattle.printed_texts.proofs.Pieces.{tok, Prints, seq, loosen, recast, in_left, in_right, giving, blank_before, blank_behind}
+use Rattle.printed_texts.proofs.Marks.{NoArrow, open_paren, close_paren, minus_then, word_piece, tight_piece, decimal_digits}
 
 -- ---- parentheses
 

@@ -1,8 +1,7 @@
 -- Statements without regions are spelled again.
-use Rattle.std.proofs.Common.{◌≡◌, ℕ, zero, suc, ◌+◌, ◌≤◌, ◌<◌, ◌==◌, ◌&&◌, ℤ, Bool, true, false, List, [], ◌∷◌, ◌++◌, length, Option, Some, None, codes, refl, sym, ap, ◌∙◌, subst, append_assoc, append-nil, inl, inr, ◌⊎◌, arith}
+use Rattle.std.proofs.Common.{◌≡◌, ℕ, ◌≤◌, ℤ, true, false, List, [], ◌∷◌, ◌++◌, Option, Some, None, codes, refl, sym, ◌∙◌, subst, append_assoc, append-nil, inl, inr}
 use Rattle.std.specs.Fmt.{signed_decimal}
-use Rattle.std.specs.List.{join_by}
-use Rattle.readers.specs.Languages.{Lang, Nothing, One, Both, Either, Giving, Optional}
+use Rattle.readers.specs.Languages.{One, Both, Optional}
 use Rattle.affine_ast.specs.declared.name.Name.{Name}
 use Rattle.affine_ast.specs.declared.types.Access.{Access}
 use Rattle.affine_ast.specs.declared.types.Scalar.{Scalar}
@@ -11,7 +10,7 @@ use Rattle.affine_ast.specs.declared.types.Pick.{Pick}
 use Rattle.affine_ast.specs.declared.types.Pick.TheVariants as pick
 use Rattle.affine_ast.specs.declared.stmt.What.{What}
 use Rattle.affine_ast.specs.declared.stmt.What.TheVariants as what
-use Rattle.affine_ast.specs.Nest.{Nest, Nothing as NoStatement, put_what}
+use Rattle.affine_ast.specs.Nest.{Nothing as NoStatement, put_what}
 use Rattle.affine_ast.specs.Spelling.{name_text, names_text, listed, statement_text, defined_text, named_text, place_text, raw_place_text, value_word, value_text, use_text, subscripts_text, load_text, store_text, raw_load_text, raw_store_text, constant_text, binary_text, cast_text, cast_types_text, alloc_text, dealloc_text, operation_word, cast_word, pair_text, typed_text, scalar_text, scalar_typed_text, memref_text, stride_text, first_place_text, ends_text, amount_text, wait_text}
 use Rattle.affine_ast.proofs.Spellings.{statement-Value, statement-Load, statement-Store, statement-RawLoad, statement-RawStore, statement-Constant, statement-Binary, statement-Cast, statement-Alloc, statement-Dealloc, statement-Start, statement-Wait}
 use Rattle.affine_ast.proofs.Nests.{put-Value, put-Load, put-Store, put-Start, put-Wait}
@@ -20,15 +19,13 @@ use Rattle.int_ops.specs.declared.operation.Op.TheVariants as op
 use Rattle.int_ops.specs.declared.operation.CastKind.{CastKind}
 use Rattle.int_ops.specs.declared.operation.CastKind.TheVariants as cast
 use Rattle.affine_grammar.specs.declared.words.Alias.{Alias}
-use Rattle.affine_grammar.specs.declared.words.Action.{Action}
 use Rattle.affine_grammar.specs.declared.words.Action.TheVariants as action
 use Rattle.affine_grammar.specs.declared.words.Definition.{Definition}
 use Rattle.affine_grammar.specs.declared.words.Definition.TheVariants as definition
-use Rattle.affine_grammar.specs.Token.{Tok, sign, word, value, scalar, definition_word, definition_of, action_word, action_of}
-use Rattle.affine_grammar.specs.Grammar.{Memref, Signed, Use, Subscripts, Brackets}
+use Rattle.affine_grammar.specs.Token.{Tok, sign, value, definition_word, definition_of, action_word, action_of}
 use Rattle.affine_grammar.specs.GrammarFile.{Typed, Regions, Defined, Acted, Part, Stride}
 use Rattle.printed_texts.specs.Nesting.{StatementsNest, UseNests}
-use Rattle.printed_texts.proofs.Pieces.{ends, Prints, seq, prints_as, in_left, in_right, giving, nothing, loosen, blank_before, blank_behind}
+use Rattle.printed_texts.proofs.Pieces.{ends, Prints, seq, in_left, in_right, giving, nothing, loosen, blank_before, blank_behind}
 use Rattle.printed_texts.proofs.Marks.{keyword, word_piece, open_paren, close_paren, comma_sign, colon_sign}
 use Rattle.printed_texts.proofs.Given.{Given, IsWritten, given_left, given_right, given_one, value_given, value_prints}
 use Rattle.printed_texts.proofs.Uses.{AliasesTold, ToldUse, use_told, ToldSubscripts, subscripts_told, AllWritten, brackets_told, brackets_again}
@@ -105,8 +102,8 @@ module _ (r : Name) (total : ℕ) where
     text_is = λ margin. statement-Value margin r p at ∙ simp append_assoc refl;
     small = t.small;
     again = λ h line n.
-      let m = subst StatementsNest (put-Value line NoStatement r p at) n in
-      seq (pick_again p) tt (loosen (giving (λ (q : Access × ℕ). let x : What × ℕ = (what.Value r p q.0, q.1) in x) (t.again true (inl refl) (t.small h) m.0)));
+        let m = subst StatementsNest (put-Value line NoStatement r p at) n in
+        seq (pick_again p) tt (loosen (giving (λ (q : Access × ℕ). let x : What × ℕ = (what.Value r p q.0, q.1) in x) (t.again true (inl refl) (t.small h) m.0)));
   }
 
   load_definition : (m : Name) (at : Access) (behind : ℕ) (ty : MemrefType) → IsWritten m → ToldSubscripts at total behind → TypeTold ty → ToldDefinition r (what.Load r m at ty) total behind
@@ -116,8 +113,8 @@ module _ (r : Name) (total : ℕ) where
     text_is = λ margin. statement-Load margin r m at ty ∙ simp append_assoc refl;
     small = t.small;
     again = λ h line n.
-      let k = subst StatementsNest (put-Load line NoStatement r m at ty) n in
-      seq load_word tt (seq (value_prints m w) (λ r c. refl) (seq (t.again (t.small h) k.0) tt (typed_again (λ ty. let x : What × ℕ = (what.Load r m at ty, behind) in x) ty y)));
+        let k = subst StatementsNest (put-Load line NoStatement r m at ty) n in
+        seq load_word tt (seq (value_prints m w) (λ r c. refl) (seq (t.again (t.small h) k.0) tt (typed_again (λ ty. let x : What × ℕ = (what.Load r m at ty, behind) in x) ty y)));
   }
 
   raw_load_definition : (m : Name) (vs : List Name) (ty : MemrefType) → IsWritten m → AllWritten vs → TypeTold ty → ToldDefinition r (what.RawLoad r m vs ty) total total
@@ -300,8 +297,8 @@ module _ (R : Regions) (total : ℕ) where
     text_is = λ margin. statement-Store margin x m at ty ∙ simp append_assoc refl;
     small = t.small;
     again = λ h line n.
-      let k = subst StatementsNest (put-Store line NoStatement x m at ty) n in
-      seq store_word tt (seq (value_prints x v) (λ r c. refl) (seq comma tt (seq (value_prints m w) (λ r c. refl) (seq (t.again (t.small h) k.0) tt (typed_again (λ ty. let p : What × ℕ = (what.Store x m at ty, behind) in p) ty y)))));
+        let k = subst StatementsNest (put-Store line NoStatement x m at ty) n in
+        seq store_word tt (seq (value_prints x v) (λ r c. refl) (seq comma tt (seq (value_prints m w) (λ r c. refl) (seq (t.again (t.small h) k.0) tt (typed_again (λ ty. let p : What × ℕ = (what.Store x m at ty, behind) in p) ty y)))));
   }
 
   raw_store_action : (x m : Name) (vs : List Name) (ty : MemrefType) → IsWritten x → IsWritten m → AllWritten vs → TypeTold ty → ToldAction R (what.RawStore x m vs ty) total total
@@ -329,8 +326,8 @@ module _ (R : Regions) (total : ℕ) where
     text_is = λ margin. statement-Wait margin m at n ty ∙ simp append_assoc refl;
     small = t.subscripts.small;
     again = λ h line q.
-      let k = subst StatementsNest (put-Wait line NoStatement m at n ty) q in
-      seq wait_word tt (seq (part_again m at total behind t h k.0) tt (seq comma tt (seq (value_prints n w) (λ r c. refl) (typed_again (λ ty. let p : What × ℕ = (what.Wait m at n ty, behind) in p) ty y))));
+        let k = subst StatementsNest (put-Wait line NoStatement m at n ty) q in
+        seq wait_word tt (seq (part_again m at total behind t h k.0) tt (seq comma tt (seq (value_prints n w) (λ r c. refl) (typed_again (λ ty. let p : What × ℕ = (what.Wait m at n ty, behind) in p) ty y))));
   }
 
   start_action : (a : Name) (aa : Access) (b : Name) (bb : Access) (c : Name) (cc' : Access) (n : Name) (s : Option (Name × Name)) (t u v : MemrefType) (n1 n2 n3 : ℕ)
@@ -341,12 +338,12 @@ module _ (R : Regions) (total : ℕ) where
     text_is = λ margin. statement-Start margin a aa b bb c cc' n s (t ∷ u ∷ v ∷ []) ∙ start_pieces (codes "affine.dma_start ") (codes ", ") (codes " : ") (name_text a) (subscripts_text aa) (name_text b) (subscripts_text bb) (name_text c) (subscripts_text cc') (name_text n) (stride_text s) (memref_text t) (memref_text u) (memref_text v);
     small = λ h. pc.subscripts.small (pb.subscripts.small (pa.subscripts.small h));
     again = λ h line q.
-      let k = subst StatementsNest (put-Start line NoStatement a aa b bb c cc' n s (t ∷ u ∷ v ∷ [])) q in
-      let h1 = pa.subscripts.small h in
-      let h2 = pb.subscripts.small h1 in
-      let types = seq (memref_again t wt) (λ r c. refl) (seq comma tt (seq (memref_again u wu) (λ r c. refl) (seq comma tt (giving (λ v. let p : What × ℕ = (what.Start a aa b bb c cc' n s (t ∷ u ∷ v ∷ []), n3) in p) (memref_again v wv))))) in
-      let amount = seq (value_prints n wn) (λ r x. subst (λ l. ends l ≡ true) (sym (append_assoc (stride_text s) (codes " : " ++ (memref_text t ++ (codes ", " ++ (memref_text u ++ (codes ", " ++ memref_text v))))) r)) (stride_joins s _ refl)) (seq (stride_again s ws) (λ r x. refl) (seq colon tt types)) in
-      seq start_word tt (seq (part_again a aa total n1 pa h k.0.0) tt (seq comma tt (seq (part_again b bb n1 n2 pb h1 k.0.1) tt (seq comma tt (seq (part_again c cc' n2 n3 pc h2 k.0.2) tt (seq comma tt amount))))));
+        let k = subst StatementsNest (put-Start line NoStatement a aa b bb c cc' n s (t ∷ u ∷ v ∷ [])) q in
+        let h1 = pa.subscripts.small h in
+        let h2 = pb.subscripts.small h1 in
+        let types = seq (memref_again t wt) (λ r c. refl) (seq comma tt (seq (memref_again u wu) (λ r c. refl) (seq comma tt (giving (λ v. let p : What × ℕ = (what.Start a aa b bb c cc' n s (t ∷ u ∷ v ∷ []), n3) in p) (memref_again v wv))))) in
+        let amount = seq (value_prints n wn) (λ r x. subst (λ l. ends l ≡ true) (sym (append_assoc (stride_text s) (codes " : " ++ (memref_text t ++ (codes ", " ++ (memref_text u ++ (codes ", " ++ memref_text v))))) r)) (stride_joins s _ refl)) (seq (stride_again s ws) (λ r x. refl) (seq colon tt types)) in
+        seq start_word tt (seq (part_again a aa total n1 pa h k.0.0) tt (seq comma tt (seq (part_again b bb n1 n2 pb h1 k.0.1) tt (seq comma tt (seq (part_again c cc' n2 n3 pc h2 k.0.2) tt (seq comma tt amount))))));
   }
 
 abbrev Acts : Regions → ℕ → What × ℕ → Type 0

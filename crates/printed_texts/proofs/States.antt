@@ -1,20 +1,18 @@
 -- What the states of a given text and those of its printed spelling have in common.
-use Rattle.std.proofs.Common.{◌≡◌, ℕ, zero, suc, ◌+◌, ◌≤◌, ◌<◌, ◌==◌, ◌&&◌, ◌||◌, ◌^◌, nat_le, Bool, true, false, if◌then◌else◌, List, [], ◌∷◌, ◌++◌, length, Option, Some, None, slice_get, decimal, codes, bytes_eq, refl, sym, ap, ◌∙◌, subst, append_assoc, append-nil, length-append, arith}
+use Rattle.std.proofs.Common.{◌≡◌, ℕ, zero, suc, ◌+◌, ◌≤◌, ◌<◌, ◌||◌, ◌^◌, nat_le, Bool, true, false, if◌then◌else◌, List, [], ◌∷◌, ◌++◌, length, Option, Some, None, slice_get, decimal, bytes_eq, refl, sym, ap, ◌∙◌, subst, append_assoc, append-nil, length-append, arith}
 use Rattle.std.proofs.lemmas.Bool.Decides.{nat_tests}
 use Rattle.std.proofs.lemmas.Slice.Eq.{bytes_eq-Decides}
 use Rattle.std.proofs.lemmas.Fmt.{decimal_injective}
 use Rattle.affine_ast.specs.declared.name.Name.{Name}
 use Rattle.affine_ast.specs.Spelling.{Leaves, parameters, operands}
-use Rattle.affine_lex.specs.Tokens.{IsDigits}
 use Rattle.affine_lex.proofs.Tests.{true_no}
-use Rattle.affine_expr.specs.declared.expr.Expr.{Expr}
 use Rattle.affine_grammar.specs.declared.words.State.{State}
 use Rattle.affine_grammar.specs.declared.words.Leaves.{Leaves as LeafKind}
 use Rattle.affine_grammar.specs.declared.words.Leaves.TheVariants as leaves
-use Rattle.affine_grammar.specs.Token.{Tok, named, string_of, number_of, next, appears, appearing, counting, is_full}
+use Rattle.affine_grammar.specs.Token.{named, number_of, next, appears, appearing, counting, is_full}
 use Rattle.affine_grammar.proofs.Names.{string_is}
-use Rattle.printed_texts.proofs.Given.{IsWritten, name_ascii}
-use Rattle.printed_texts.proofs.Marks.{IsValueName, decimal_digits}
+use Rattle.printed_texts.proofs.Given.{name_ascii}
+use Rattle.printed_texts.proofs.Marks.{IsValueName}
 
 -- ---- parameters of one letter
 

@@ -1,28 +1,27 @@
 -- Types and integers of a given text are spelled again.
-use Rattle.std.proofs.Common.{◌≡◌, ℕ, zero, suc, ◌+◌, ◌-◌, ◌≤◌, ◌<◌, ◌==◌, ◌&&◌, ◌||◌, ◌^◌, ℤ, pos, negsuc, neg_ℤ, nat_le, Bool, true, false, if◌then◌else◌, List, [], ◌∷◌, ◌++◌, slice_index, length, take, Option, Some, None, flat_map, decimal, codes, refl, sym, ap, ◌∙◌, subst, append_assoc, append-nil, length-append, inl, inr, ◌⊎◌, arith}
+use Rattle.std.proofs.Common.{◌≡◌, ℕ, zero, suc, ◌+◌, ◌-◌, ◌≤◌, ◌==◌, ◌||◌, ℤ, pos, negsuc, neg_ℤ, nat_le, Bool, true, false, if◌then◌else◌, List, [], ◌∷◌, ◌++◌, slice_index, length, take, Some, None, flat_map, decimal, codes, refl, sym, ap, ◌∙◌, subst, append_assoc, append-nil, length-append, inl, inr, arith}
 use Rattle.std.proofs.lemmas.Bool.Decides.{nat_tests}
 use Rattle.std.proofs.Math.Seq.{take-append_seam}
 use Rattle.std.specs.Fmt.{signed_decimal}
 use Rattle.std.specs.Char.{is_ascii_digit}
 use Rattle.std.specs.Str.Parse.{digits_value}
-use Rattle.readers.specs.Languages.{Lang, Nothing, One, Both, Either, Many, none, more, Giving, Optional, Linked, Enclosed}
+use Rattle.readers.specs.Languages.{Lang, Nothing, One, Both, Many, none, more, Optional, Linked}
 use Rattle.affine_lex.specs.Scan.{after_word, after_punct, token, Lexeme}
 use Rattle.affine_lex.specs.Tokens.{IsDigits, HasForm}
 use Rattle.affine_lex.specs.declared.token.Kind.TheVariants as k
-use Rattle.affine_lex.proofs.Tests.{true_no}
 use Rattle.affine_lex.proofs.Written.{Piece, AreCut, cut_token, word_again, sign_again, sizes_again as sizes_token}
 use Rattle.affine_ast.specs.declared.types.Element.{Element}
 use Rattle.affine_ast.specs.declared.types.Element.TheVariants as el
 use Rattle.affine_ast.specs.declared.types.Scalar.{Scalar}
 use Rattle.affine_ast.specs.declared.types.Scalar.TheVariants as sc
 use Rattle.affine_ast.specs.declared.types.MemrefType.{MemrefType}
-use Rattle.affine_ast.specs.Spelling.{element_text, scalar_text, size_text, space_text, memref_text, typed_text, scalar_typed_text}
-use Rattle.affine_grammar.specs.Token.{Tok, class, sign, word, integer, negative, positive, negated, size, space, within, element, element_of, scalar, scalar_of, of_size, of_number}
-use Rattle.affine_grammar.specs.Grammar.{Sizes, SpaceType, Space, Shape, Memref, Signed}
+use Rattle.affine_ast.specs.Spelling.{element_text, scalar_text, size_text, space_text, memref_text, typed_text}
+use Rattle.affine_grammar.specs.Token.{Tok, class, sign, integer, negative, size, space, within, element, element_of, scalar, scalar_of}
+use Rattle.affine_grammar.specs.Grammar.{SpaceType, Space, Shape, Memref, Signed}
 use Rattle.affine_grammar.specs.GrammarFile.{Typed}
-use Rattle.printed_texts.proofs.Pieces.{tok, Are, Parted, parted, ends, Closes, Joins, Cuts, Prints, seq, prints_as, in_left, in_right, giving, nothing, blank_before, blank_behind}
+use Rattle.printed_texts.proofs.Pieces.{tok, Are, parted, ends, Closes, Joins, Cuts, Prints, seq, prints_as, in_left, in_right, giving, nothing, blank_before, blank_behind}
 use Rattle.printed_texts.proofs.Marks.{NoArrow, ends_id, id_word, word_form, word_piece, number_piece, minus_then, greater_sign, comma_sign, colon_sign, decimal_digits, decimal_value}
-use Rattle.printed_texts.proofs.Given.{Given, given_left, given_right, within_some, of_size_some, integer_given, negative_given, space_given, IsPositive, IsNegative}
+use Rattle.printed_texts.proofs.Given.{within_some, of_size_some, integer_given, negative_given, space_given}
 
 -- ---- where sizes may stand
 
@@ -130,19 +129,19 @@ unfolding size_text
 sizes_more {o = o} b n acc f h q = record {
   pieces = (k.Sizes, size_text n) ∷ q.pieces;
   cut = λ rest qs c a.
-    let e : size_text n ++ ((f ++ b) ++ rest) ≡ ((size_text n ++ f) ++ b) ++ rest = simp append_assoc refl in
-    subst (λ l. AreCut (after_punct (after_word (codes "memref")) 60) l (((k.Sizes, size_text n) ∷ q.pieces) ++ qs)) e (sizes_cut (decimal n) ((f ++ b) ++ rest) (q.pieces ++ qs) (decimal_digits n (omega (arith, h))) (q.cut rest qs c a));
+      let e : size_text n ++ ((f ++ b) ++ rest) ≡ ((size_text n ++ f) ++ b) ++ rest = simp append_assoc refl in
+      subst (λ l. AreCut (after_punct (after_word (codes "memref")) 60) l (((k.Sizes, size_text n) ∷ q.pieces) ++ qs)) e (sizes_cut (decimal n) ((f ++ b) ++ rest) (q.pieces ++ qs) (decimal_digits n (omega (arith, h))) (q.cut rest qs c a));
   spelled = λ us a.
-    let t : Tok = tok (k.Sizes, size_text n) a.0 a.1.0 in
-    let i = q.spelled a.1.1.0 a.1.1.1.1 in
-    record {
-      value = i.value;
-      left = t ∷ i.left;
-      right = i.right;
-      parts = a.1.1.1.0 ∙ ap (λ l. t ∷ l) i.parts;
-      first = more acc (acc ++ n ∷ []) i.value (t ∷ i.left) (t ∷ []) i.left refl (one_size acc t n (size_accepted n a.0 a.1.0 h)) i.first;
-      second = i.second;
-    };
+      let t : Tok = tok (k.Sizes, size_text n) a.0 a.1.0 in
+      let i = q.spelled a.1.1.0 a.1.1.1.1 in
+      record {
+        value = i.value;
+        left = t ∷ i.left;
+        right = i.right;
+        parts = a.1.1.1.0 ∙ ap (λ l. t ∷ l) i.parts;
+        first = more acc (acc ++ n ∷ []) i.value (t ∷ i.left) (t ∷ []) i.left refl (one_size acc t n (size_accepted n a.0 a.1.0 h)) i.first;
+        second = i.second;
+      };
 }
 
 -- sizes, and what stands behind them
@@ -216,7 +215,7 @@ pub memref_again : (ty : MemrefType) → TypeTold ty → Prints true (memref_tex
 unfolding memref_text
 memref_again ty t =
     let el_part : SizedPrints true (element_text ty.element ++ space_text ty.space) (Both (One element) (λ x. Both (Optional Space 0) (λ s. Nothing (record { sizes = ty.sizes; element = x; space = s })))) ty =
-          sized_seq (element_again ty.element) (space_joins ty.space) (giving (λ s. let m : MemrefType = record { sizes = ty.sizes; element = ty.element; space = s } in m) (space_again ty.space t.space)) in
+    sized_seq (element_again ty.element) (space_joins ty.space) (giving (λ s. let m : MemrefType = record { sizes = ty.sizes; element = ty.element; space = s } in m) (space_again ty.space t.space)) in
     let shape : SizedPrints true (flat_map size_text ty.sizes ++ (element_text ty.element ++ space_text ty.space)) Shape ty = sizes_again {K = λ ns. Both (One element) (λ x. Both (Optional Space 0) (λ s. Nothing (record { sizes = ns; element = x; space = s })))} ty.sizes [] t.sizes el_part in
     let closed : SizedPrints true ((flat_map size_text ty.sizes ++ (element_text ty.element ++ space_text ty.space)) ++ codes ">") (Both Shape (λ x. Both (One (sign 62)) (λ _. Nothing x))) ty = sized_seq shape (λ r c. refl) (giving (λ _. ty) greater_sign) in
     let e : (flat_map size_text ty.sizes ++ (element_text ty.element ++ space_text ty.space)) ++ codes ">" ≡ flat_map size_text ty.sizes ++ (element_text ty.element ++ (space_text ty.space ++ codes ">")) = simp append_assoc refl in
@@ -227,16 +226,20 @@ memref_again ty t =
     opened ty b n p = record {
       pieces = (k.Word, codes "memref") ∷ (k.Punct 60, codes "<") ∷ p.pieces;
       cut = λ rest qs c h.
-        cut_token (after_word []) k.Word 109 (101 ∷ 109 ∷ 114 ∷ 101 ∷ 102 ∷ []) (60 ∷ (b ++ rest)) ((k.Punct 60, codes "<") ∷ (p.pieces ++ qs)) refl refl (word_again false 109 (101 ∷ 109 ∷ 114 ∷ 101 ∷ 102 ∷ []) (60 ∷ (b ++ rest)) refl (word_form 109 (101 ∷ 109 ∷ 114 ∷ 101 ∷ 102 ∷ []) refl refl).1 refl)
-        (cut_token (after_word (codes "memref")) (k.Punct 60) 60 [] (b ++ rest) (p.pieces ++ qs) refl refl (sign_again false 60 (b ++ rest) refl (ap (λ v. v || false) (n rest))) (p.cut rest qs c h));
+          cut_token (after_word []) k.Word 109 (101 ∷ 109 ∷ 114 ∷ 101 ∷ 102 ∷ []) (60 ∷ (b ++ rest)) ((k.Punct 60, codes "<") ∷ (p.pieces ++ qs)) refl refl (word_again false 109 (101 ∷ 109 ∷ 114 ∷ 101 ∷ 102 ∷ []) (60 ∷ (b ++ rest)) refl (word_form 109 (101 ∷ 109 ∷ 114 ∷ 101 ∷ 102 ∷ []) refl refl).1 refl)
+          (cut_token (after_word (codes "memref")) (k.Punct 60) 60 [] (b ++ rest) (p.pieces ++ qs) refl refl (sign_again false 60 (b ++ rest) refl (ap (λ v. v || false) (n rest))) (p.cut rest qs c h));
       spelled = λ us h.
-        let t : Tok = tok (k.Word, codes "memref") h.0 h.1.0 in
-        let m = h.1.1.1.1 in
-        let u : Tok = tok (k.Punct 60, codes "<") m.0 m.1.0 in
-        record {
-          value = tt; left = t ∷ []; right = h.1.1.0; parts = h.1.1.1.0; first = record { token = t; alone = refl; accepted = refl };
-          second = record { value = tt; left = u ∷ []; right = m.1.1.0; parts = m.1.1.1.0; first = record { token = u; alone = refl; accepted = refl }; second = p.spelled m.1.1.0 m.1.1.1.1 };
-        };
+          let t : Tok = tok (k.Word, codes "memref") h.0 h.1.0 in
+          let m = h.1.1.1.1 in
+          let u : Tok = tok (k.Punct 60, codes "<") m.0 m.1.0 in
+          record {
+            value = tt;
+            left = t ∷ [];
+            right = h.1.1.0;
+            parts = h.1.1.1.0;
+            first = record { token = t; alone = refl; accepted = refl };
+            second = record { value = tt; left = u ∷ []; right = m.1.1.0; parts = m.1.1.1.0; first = record { token = u; alone = refl; accepted = refl }; second = p.spelled m.1.1.0 m.1.1.1.1 };
+          };
     }
 
 pub typed_again : {A : Type 0} (f : MemrefType → A) (ty : MemrefType) → TypeTold ty → Prints true (typed_text ty) (Typed f) (f ty)

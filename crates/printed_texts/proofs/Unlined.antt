@@ -1,11 +1,11 @@
 -- What the lines of statements have no part in.
-use Rattle.std.proofs.Common.{◌≡◌, ℕ, zero, suc, List, [], ◌∷◌, ◌++◌, refl, sym, ap, ◌∙◌, subst}
+use Rattle.std.proofs.Common.{◌≡◌, ℕ, List, [], ◌∷◌, ◌++◌, refl, sym, ap, ◌∙◌, subst}
 use Rattle.affine_ast.specs.declared.stmt.Stmt.{Stmt}
 use Rattle.affine_ast.specs.declared.stmt.What as what
 use Rattle.affine_ast.specs.declared.stmt.What.{What}
 use Rattle.affine_ast.specs.declared.stmt.What.TheOpen.{What-F}
 use Rattle.affine_ast.specs.Nest.{Nest, Nothing, Loop, Branch, Does, followed_by, Puts, put_layer, put_what, put_stmt, nest}
-use Rattle.affine_ast.proofs.Nests.{put_what_is, put-followed, nest-append, nest-cons, nest-nil}
+use Rattle.affine_ast.proofs.Nests.{put_what_is, put-followed, nest-append, nest-cons}
 use Rattle.printed_texts.specs.Nesting.{StatementsNest}
 use Rattle.printed_texts.specs.Lines.{unlined}
 

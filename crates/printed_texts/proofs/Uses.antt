@@ -1,9 +1,8 @@
 -- Uses of maps and sets, and subscripts, are spelled again.
-use Rattle.std.proofs.Common.{◌≡◌, ℕ, zero, suc, ◌+◌, ◌≤◌, ◌<◌, ◌==◌, ◌&&◌, ◌||◌, ◌^◌, nat_lt, nat_le, not, Bool, true, false, if◌then◌else◌, List, [], ◌∷◌, ◌++◌, length, take, drop, Option, Some, None, codes, bytes_eq, refl, sym, ap, ◌∙◌, subst, append_assoc, append-nil, length-append, inl, inr, ◌⊎◌, arith}
+use Rattle.std.proofs.Common.{◌≡◌, ℕ, zero, suc, ◌+◌, ◌≤◌, ◌&&◌, ◌||◌, nat_le, not, Bool, true, false, if◌then◌else◌, List, [], ◌∷◌, ◌++◌, length, take, drop, Option, Some, None, codes, bytes_eq, refl, sym, ap, ◌∙◌, subst, append_assoc, append-nil, inl, inr, arith}
 use Rattle.std.proofs.lemmas.Bool.Decides.{nat_tests}
 use Rattle.std.proofs.Math.Seq.{take-append_seam, drop-append_seam}
-use Rattle.readers.specs.Languages.{Lang, Nothing, One, Both, Either, Many, none, more, Giving, Optional, Linked, Times, Exactly, Enclosed, Listed}
-use Rattle.affine_lex.proofs.Tests.{true_no}
+use Rattle.readers.specs.Languages.{Lang, Nothing, One, Both, Many, none, more, Linked, Times, Exactly, Enclosed, Listed}
 use Rattle.affine_expr.specs.declared.expr.Expr.{Expr}
 use Rattle.affine_expr.specs.declared.map.Map.{Map}
 use Rattle.affine_expr.specs.declared.map.Set.{Set}
@@ -15,15 +14,15 @@ use Rattle.affine_grammar.specs.declared.words.Alias.{Alias}
 use Rattle.affine_grammar.specs.declared.words.Body.{Body}
 use Rattle.affine_grammar.specs.declared.words.Body.TheVariants as body
 use Rattle.affine_grammar.specs.declared.words.Leaves.TheVariants as leaves
-use Rattle.affine_grammar.specs.Token.{Tok, class, sign, value, of_alias, alias_in, map_body, map_meant, alias_map, set_body, set_meant, alias_set, brings}
+use Rattle.affine_grammar.specs.Token.{Tok, class, sign, alias_in, map_body, map_meant, set_body, set_meant, brings}
 use Rattle.affine_grammar.specs.Grammar as grammar
 use Rattle.affine_grammar.specs.Grammar.{Result, NextResult, Map0, Set0, OneValue, Values, SymbolValues, Operands, SomeMap, SomeSet, Use, no_values, access_with, Subscripts, NextValue, Brackets}
 use Rattle.printed_texts.specs.Nesting.{AllNest, RowsNest, UseNests}
-use Rattle.printed_texts.proofs.Pieces.{tok, ends, Joins, Prints, seq, prints_as, in_left, in_right, giving, nothing, no_item, item_then, loosen, blank_behind}
-use Rattle.printed_texts.proofs.Marks.{open_paren, close_paren, open_square, close_square, comma_sign}
-use Rattle.printed_texts.proofs.Given.{Given, IsGiven, IsWritten, given_left, given_right, given_one, value_given, value_prints, of_alias_some}
+use Rattle.printed_texts.proofs.Pieces.{Prints, seq, prints_as, in_left, in_right, giving, nothing, no_item, item_then, blank_behind}
+use Rattle.printed_texts.proofs.Marks.{open_square, close_square, comma_sign}
+use Rattle.printed_texts.proofs.Given.{Given, IsWritten, given_left, given_right, given_one, value_given, value_prints, of_alias_some}
 use Rattle.printed_texts.proofs.Places.{parens}
-use Rattle.printed_texts.proofs.States.{Grown, grown_same, grown_then, printed_leaves, moved, Room}
+use Rattle.printed_texts.proofs.States.{grown_same, printed_leaves, moved, Room}
 use Rattle.printed_texts.proofs.Expressions.{ToldExpression, expression_told}
 use Rattle.printed_texts.proofs.Lists.{more_text, more_joins, ToldList, list_told}
 use Rattle.printed_texts.proofs.Maps.{map_text, FitsSeveral, ToldMap, map_told, set_head_text, ToldSet, set_told}
@@ -153,7 +152,7 @@ operands_again dims syms vs t =
     let T : List ℕ = (codes "(" ++ (names_text t.first ++ codes ")")) ++ symbol_names_text t.second in
     let z : Prints false ((codes "(" ++ (names_text t.first ++ codes ")")) ++ symbol_names_text t.second) (Operands (length t.first) (length t.second)) (t.first ++ t.second) = seq x tt (giving (λ ss. t.first ++ ss) y) in
     let w : Prints false ((codes "(" ++ (names_text t.first ++ codes ")")) ++ symbol_names_text t.second) (Operands dims syms) vs =
-          subst (λ v. Prints false T (Operands dims syms) v) (sym t.parts) (subst (λ n. Prints false T (Operands dims n) (t.first ++ t.second)) t.syms_told.count (subst (λ n. Prints false T (Operands n (length t.second)) (t.first ++ t.second)) t.dims_told.count z)) in
+    subst (λ v. Prints false T (Operands dims syms) v) (sym t.parts) (subst (λ n. Prints false T (Operands dims n) (t.first ++ t.second)) t.syms_told.count (subst (λ n. Prints false T (Operands n (length t.second)) (t.first ++ t.second)) t.dims_told.count z)) in
     let a : take dims vs ≡ t.first = ap (λ l. take dims l) t.parts ∙ ap (λ n. take n (t.first ++ t.second)) (sym t.dims_told.count) ∙ take-append_seam t.first t.second in
     let b : drop dims vs ≡ t.second = ap (λ l. drop dims l) t.parts ∙ ap (λ n. drop n (t.first ++ t.second)) (sym t.dims_told.count) ∙ drop-append_seam t.first t.second in
     prints_as w (ap (λ l. 40 ∷ l) (append_assoc (names_text t.first) (codes ")") (symbol_names_text t.second)) ∙ sym (ap (λ l. 40 ∷ (names_text l ++ (41 ∷ symbol_names_text (drop dims vs)))) a ∙ ap (λ l. 40 ∷ (names_text t.first ++ (41 ∷ symbol_names_text l))) b))
@@ -210,14 +209,14 @@ plain_map : (m : Map) (total behind : ℕ) → ToldMap m total behind → UsedMa
 plain_map m total behind t = record {
   small = t.small;
   again = λ several c h n. subst (λ k. Prints true (map_text m) (Map0 several k) (m, behind)) (plus_zero total)
-    (subst (λ k. Prints true (map_text m) (Map0 several (total + 0)) (m, k)) (plus_zero behind) (t.again several c 0 (omega (arith, h)) n));
+      (subst (λ k. Prints true (map_text m) (Map0 several (total + 0)) (m, k)) (plus_zero behind) (t.again several c 0 (omega (arith, h)) n));
 }
 
 alias_used : (m : Map) (total ops : ℕ) → total + ops ≤ 1048576 → ToldMap m 0 ops → UsedMap m total (total + ops)
 alias_used m total ops l t = record {
   small = λ h. l;
   again = λ several c h n. subst (λ k. Prints true (map_text m) (Map0 several k) (m, total + ops)) (zero_plus total)
-    (subst (λ k. Prints true (map_text m) (Map0 several (0 + total)) (m, k)) (plus_comm ops total) (t.again several c total (omega (arith, l)) n));
+      (subst (λ k. Prints true (map_text m) (Map0 several (0 + total)) (m, k)) (plus_comm ops total) (t.again several c total (omega (arith, l)) n));
 }
 
 map_body_told : (several : Bool) (total ops : ℕ) (b : Body) (p : Map × ℕ) → map_body true several (total + ops) b ≡ Some p → BodyTold b ops → UsedMap p.0 total p.1
@@ -243,14 +242,14 @@ plain_set : (m : Set) (total behind : ℕ) → ToldSet m total behind → UsedSe
 plain_set m total behind t = record {
   small = t.small;
   again = λ h n. subst (λ k. Prints true (set_head_text m) (Set0 k) (m, behind)) (plus_zero total)
-    (subst (λ k. Prints true (set_head_text m) (Set0 (total + 0)) (m, k)) (plus_zero behind) (t.again 0 (omega (arith, h)) n));
+      (subst (λ k. Prints true (set_head_text m) (Set0 (total + 0)) (m, k)) (plus_zero behind) (t.again 0 (omega (arith, h)) n));
 }
 
 alias_set_used : (m : Set) (total ops : ℕ) → total + ops ≤ 1048576 → ToldSet m 0 ops → UsedSet m total (total + ops)
 alias_set_used m total ops l t = record {
   small = λ h. l;
   again = λ h n. subst (λ k. Prints true (set_head_text m) (Set0 k) (m, total + ops)) (zero_plus total)
-    (subst (λ k. Prints true (set_head_text m) (Set0 (0 + total)) (m, k)) (plus_comm ops total) (t.again total (omega (arith, l)) n));
+      (subst (λ k. Prints true (set_head_text m) (Set0 (0 + total)) (m, k)) (plus_comm ops total) (t.again total (omega (arith, l)) n));
 }
 
 set_body_told : (total ops : ℕ) (b : Body) (p : Set × ℕ) → set_body true (total + ops) b ≡ Some p → BodyTold b ops → UsedSet p.0 total p.1
@@ -279,9 +278,9 @@ unfolding use_text operands_text
 use_of total p vs m o = record {
   small = m.small;
   again = λ several c h n.
-    let x : Prints true (map_text p.0) (SomeMap [] several total) p = in_right (m.again several c h n) in
-    let y = operands_again p.0.dims p.0.syms vs o in
-    prints_as (seq x (λ r d. refl) (giving (λ (ws : List Name). let q : Access × ℕ = (record { map = p.0; operands = ws }, p.1) in q) y)) (append_assoc (opening_text (codes "affine_map<") p.0.dims p.0.syms) (results_text p.0.results) (operands_text p.0.dims vs));
+      let x : Prints true (map_text p.0) (SomeMap [] several total) p = in_right (m.again several c h n) in
+      let y = operands_again p.0.dims p.0.syms vs o in
+      prints_as (seq x (λ r d. refl) (giving (λ (ws : List Name). let q : Access × ℕ = (record { map = p.0; operands = ws }, p.1) in q) y)) (append_assoc (opening_text (codes "affine_map<") p.0.dims p.0.syms) (results_text p.0.results) (operands_text p.0.dims vs));
 }
 
 pub use_told : (aliases : List Alias) (several : Bool) (total : ℕ) (p : Access × ℕ) (f : List Tok) → AliasesTold aliases → Given f → Use aliases several total f p → ToldUse p.0 total p.1
@@ -323,9 +322,9 @@ subscripts_of total p b t r = record { small = λ h. r.grown.kept (t.grown.kept 
         let room : Room leaves.Values 0 b.1 = record { total = omega (arith, h); few = tt } in
         let m : AllNest (p.0 ∷ r.items) = subst AllNest r.items_are n in
         let x : Prints true (expression_text S p.0) (Result leaves.Values ([], no_values total)) (p.0 ∷ [], p.1) =
-              giving (λ (q : Expr × State). (q.0 ∷ [], q.1)) (subst (λ (s : State). Prints {A = Expr × State} true (expression_text S p.0) (grammar.Expression leaves.Values (no_values total)) (p.0, s)) (same_state p.1) (subst (λ (s : State). Prints true (expression_text S p.0) (grammar.Expression leaves.Values s) (p.0, moved leaves.Values 0 p.1)) (same_state (no_values total)) (t.again 0 b.1 room r.grown m.0))) in
+        giving (λ (q : Expr × State). (q.0 ∷ [], q.1)) (subst (λ (s : State). Prints {A = Expr × State} true (expression_text S p.0) (grammar.Expression leaves.Values (no_values total)) (p.0, s)) (same_state p.1) (subst (λ (s : State). Prints true (expression_text S p.0) (grammar.Expression leaves.Values s) (p.0, moved leaves.Values 0 p.1)) (same_state (no_values total)) (t.again 0 b.1 room r.grown m.0))) in
         let y : Prints true (more_text (expression_text S) r.items) (Many (NextResult leaves.Values true) (p.0 ∷ [], p.1)) b =
-              subst (λ s. Prints true (more_text (expression_text S) r.items) (Many (NextResult leaves.Values true) (p.0 ∷ [], p.1)) (b.0, s)) (same_state b.1) (subst (λ s. Prints true (more_text (expression_text S) r.items) (Many (NextResult leaves.Values true) (p.0 ∷ [], s)) (b.0, moved leaves.Values 0 b.1)) (same_state p.1) (r.again true (inl refl) 0 b.1 room (grown_same b.1) m.1)) in
+        subst (λ s. Prints true (more_text (expression_text S) r.items) (Many (NextResult leaves.Values true) (p.0 ∷ [], p.1)) (b.0, s)) (same_state b.1) (subst (λ s. Prints true (more_text (expression_text S) r.items) (Many (NextResult leaves.Values true) (p.0 ∷ [], s)) (b.0, moved leaves.Values 0 b.1)) (same_state p.1) (r.again true (inl refl) 0 b.1 room (grown_same b.1) m.1)) in
         let e : expression_text S p.0 ++ more_text (expression_text S) r.items ≡ listed (expression_text S) b.0 = ap (λ l. listed (expression_text S) l) (sym r.items_are) in
         seq open_square tt (giving access_with (in_right (seq (prints_as (seq x (more_joins (expression_text S) r.items) y) e) (λ s c. refl) (giving (λ _. b) close_square))))
 

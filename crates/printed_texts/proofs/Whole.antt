@@ -1,20 +1,20 @@
 -- Whole texts: the printed text of what a text spells spells it again.
-use Rattle.std.proofs.Common.{◌≡◌, ℕ, zero, suc, ◌+◌, ◌≤◌, ◌<◌, ◌^◌, nat_le, cond, Bool, true, false, List, [], ◌∷◌, ◌++◌, map, length, refl, sym, ap, ◌∙◌, subst, append-nil, inl, inr, ◌⊎◌, arith}
+use Rattle.std.proofs.Common.{◌≡◌, ℕ, ◌+◌, ◌≤◌, ◌<◌, ◌^◌, nat_le, cond, Bool, true, false, List, [], ◌∷◌, ◌++◌, length, refl, sym, ap, subst, append-nil, inl, inr, arith}
 use Rattle.affine_lex.specs.declared.token.Kind.{Kind}
 use Rattle.affine_lex.specs.declared.token.Kind.TheVariants as k
 use Rattle.affine_lex.specs.declared.token.Token.{Token}
-use Rattle.affine_lex.specs.Tokens.{HasForm, IsFront, IsPlaced, IsToken, IsEnd, GoOn, AreTokens, kind_of, text_of, end_of}
+use Rattle.affine_lex.specs.Tokens.{HasForm, IsFront, GoOn, AreTokens, kind_of, text_of, end_of}
 use Rattle.affine_lex.specs.Scan.{after_word}
 use Rattle.affine_lex.proofs.Written.{Piece, AreCut, pieces, cut_tokens, cut_nothing}
 use Rattle.affine_ast.specs.declared.module.Module.{Module}
 use Rattle.affine_ast.specs.Spelling.{spelling}
 use Rattle.affine_grammar.specs.Token.{Tok}
 use Rattle.affine_grammar.specs.GrammarFile.{File}
-use Rattle.affine_grammar.specs.Spelling.{token_of, tokens_of, Spells}
+use Rattle.affine_grammar.specs.Spelling.{tokens_of, Spells}
 use Rattle.printed_texts.specs.Nesting.{ModuleNests}
 use Rattle.printed_texts.specs.Lines.{AreSameButLines}
 use Rattle.printed_texts.proofs.Pieces.{tok, Are}
-use Rattle.printed_texts.proofs.Given.{HasNameForm, IsGiven, AllGiven, Given}
+use Rattle.printed_texts.proofs.Given.{HasNameForm, AllGiven, Given}
 use Rattle.printed_texts.proofs.Blocks.{Writes}
 use Rattle.printed_texts.proofs.Modules.{file_again}
 

@@ -1,5 +1,5 @@
 -- Modules that are the same but for the lines of their statements and arguments.
-use Rattle.std.specs.Prelude.{◌≡◌, ℕ, List, [], ◌∷◌, map}
+use Rattle.std.specs.Prelude.{◌≡◌, map}
 use Rattle.affine_ast.specs.declared.module.Arg.{Arg}
 use Rattle.affine_ast.specs.declared.module.Module.{Module}
 use Rattle.affine_ast.specs.Nest.{Nest, Nothing, Loop, Branch, Does, nest}
