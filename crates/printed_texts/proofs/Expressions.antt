@@ -1,6 +1,5 @@
 -- Each expression of a given text is spelled again by its printed spelling.
 use Rattle.std.proofs.Common.{◌≡◌, ℕ, zero, suc, max, ◌≤◌, ◌==◌, ◌&&◌, ◌||◌, not, nat_le, pos, negsuc, Bool, true, false, if◌then◌else◌, List, ◌∷◌, Option, Some, None, codes, bytes_eq, refl, sym, ap, ◌∙◌, subst, inl, inr, ◌⊎◌, arith}
-use Rattle.std.proofs.lemmas.Bool.Decides.{nat_tests}
 use Rattle.readers.specs.Languages.{Nothing, One, Both, Either, Many, none, more}
 use Rattle.affine_lex.proofs.Tests.{true_no, and_left, and_right}
 use Rattle.affine_expr.specs.declared.expr.Expr.{Expr, fold-Expr, fold-roll-Expr, map-Expr, out-Expr, roll-out-Expr}
@@ -17,7 +16,7 @@ use Rattle.affine_grammar.specs.Token.{Tok, Class, Sign, Keyword, ValueName, Ali
 use Rattle.affine_grammar.specs.Grammar.{Spelling, Factor, Product, Summand, Sum, UnaryOf, Other, Unary, Leaf, Expression, begun}
 use Rattle.printed_texts.specs.Nesting.{Depths, sum_depths, product_depths, depths_step, depths, Zeros, both_bare, zeros, printed_nesting, nests_within}
 use Rattle.printed_texts.proofs.Pieces.{Prints, in_left, in_right, giving}
-use Rattle.printed_texts.proofs.Marks.{minus_then}
+use Rattle.printed_texts.proofs.Marks.{minus_then, within_is}
 use Rattle.printed_texts.proofs.Given.{Given, given_left, given_right}
 use Rattle.printed_texts.proofs.Depths.{depths-Neg, depths-Add, depths-Sub, depths-Mul, depths-FloorDiv, depths-CeilDiv, depths-Mod, zeros-Neg, zeros-Add, zeros-Sub, zeros-Mul, zeros-FloorDiv, zeros-CeilDiv, zeros-Mod}
 use Rattle.printed_texts.proofs.Places.{Placed, placed_sum, placed_product, placed_unary, product_more, sum_more, plus_op, minus_op, star_op, floor_op, ceil_op, mod_op}
@@ -346,16 +345,13 @@ or_true : (a b : Bool) → (a || b) ≡ true → (a ≡ true) ⊎ (b ≡ true)
 or_true true b h = inl refl
 or_true false b h = inr h
 
-le_true : (a b : ℕ) → nat_le a b ≡ true → a ≤ b
-le_true a b h = grind (arith, nat_tests)
-
 -- the printed spelling nests within the limit
 nesting_within : (x : Expr) → SumWithin 128 x → nests_within x ≡ true → (depths x).sum ≤ 128
 unfolding nests_within printed_nesting
 nesting_within x w h = by_case (or_true (nat_le (depths x).sum 128) (zeros x).bare h)
   where
     by_case : (nat_le (depths x).sum 128 ≡ true) ⊎ ((zeros x).bare ≡ true) → (depths x).sum ≤ 128
-    by_case (inl i) = le_true (depths x).sum 128 i
+    by_case (inl i) = within_is (depths x).sum 128 i
     by_case (inr i) = w i
 
 -- the number of operands begins anew with each expression

@@ -13,7 +13,7 @@ use Rattle.affine_ast.specs.Spelling.{name_text}
 use Rattle.affine_grammar.specs.Token.{Tok, Class, Sign, Keyword, ValueName, AliasName, FunctionName, Number, Size, ArrowSign, Relation, Other, class_of, class, of_value, of_keyword, of_alias, of_function, of_number, of_size, value, function_name, named, string_of, all_ascii, integer, negative, positive, negated, space, within}
 use Rattle.affine_grammar.proofs.Names.{id_is_ascii, string_is}
 use Rattle.printed_texts.proofs.Pieces.{Prints}
-use Rattle.printed_texts.proofs.Marks.{IsValueName, name_piece, function_piece}
+use Rattle.printed_texts.proofs.Marks.{IsValueName, name_piece, function_piece, within_is}
 
 -- ---- tokens of a given text
 
@@ -236,11 +236,8 @@ if_some : {A : Type 0} (v : Bool) (y x : A) → (if v then Some y else None) ≡
 if_some true y x h = (refl, some_one y x h)
 if_some false y x h = absurd cc
 
-le_true : (n m : ℕ) → nat_le n m ≡ true → n ≤ m
-le_true n m h = grind (arith, nat_tests)
-
 pub within_some : (most n m : ℕ) → within most n ≡ Some m → m ≤ most
-within_some most n m h = let i = if_some (nat_le n most) n m h in omega (arith, le_true n most i.0, i.1)
+within_some most n m h = let i = if_some (nat_le n most) n m h in omega (arith, within_is n most i.0, i.1)
 
 -- an integer that isn't negative, in its range
 pub record IsPositive (z : ℤ) : Type 0 where
@@ -258,13 +255,13 @@ pub integer_given : (t : Tok) (z : ℤ) → integer t ≡ Some z → IsPositive 
 integer_given t z h =
     let i = of_number_some positive z (class t) h in
     let j = if_some (nat_le i.0 9223372036854775807) (pos i.0) z i.1.1 in
-    record { magnitude = i.0; is = sym j.1; small = le_true i.0 9223372036854775807 j.0 }
+    record { magnitude = i.0; is = sym j.1; small = within_is i.0 9223372036854775807 j.0 }
 
 pub negative_given : (t : Tok) (z : ℤ) → negative t ≡ Some z → IsNegative z
 negative_given t z h =
     let i = of_number_some negated z (class t) h in
     let j = if_some (nat_le i.0 9223372036854775808) (neg_ℤ (pos i.0)) z i.1.1 in
-    record { magnitude = i.0; is = sym j.1; small = le_true i.0 9223372036854775808 j.0 }
+    record { magnitude = i.0; is = sym j.1; small = within_is i.0 9223372036854775808 j.0 }
 
 pub space_given : (t : Tok) (n : ℕ) → space t ≡ Some n → n ≤ 255
 space_given t n h = let i = of_number_some (within 255) n (class t) h in within_some 255 i.0 n i.1.1

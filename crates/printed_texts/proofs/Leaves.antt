@@ -1,5 +1,5 @@
 -- The operands of a given text, and of its printed spelling.
-use Rattle.std.proofs.Common.{◌≡◌, ℕ, zero, suc, ◌+◌, ◌≤◌, ◌<◌, ◌&&◌, ◌^◌, ℤ, pos, negsuc, neg_ℤ, nat_le, Bool, true, false, if◌then◌else◌, List, [], ◌∷◌, ◌++◌, length, Option, Some, None, slice_get, decimal, codes, not, bytes_eq, append-nil, length-append, refl, sym, ap, ◌∙◌, subst, inl, inr, arith}
+use Rattle.std.proofs.Common.{◌≡◌, ℕ, zero, suc, ◌+◌, ◌≤◌, ◌<◌, ◌&&◌, ◌^◌, ℤ, pos, negsuc, neg_ℤ, Bool, true, false, if◌then◌else◌, List, [], ◌∷◌, ◌++◌, length, Option, Some, None, slice_get, decimal, codes, not, bytes_eq, append-nil, length-append, refl, sym, ap, ◌∙◌, subst, inl, inr, arith}
 use Rattle.std.proofs.lemmas.Bool.Decides.{nat_tests}
 use Rattle.std.specs.Char.{is_ascii_digit}
 use Rattle.readers.specs.Languages.{One}
@@ -20,7 +20,7 @@ use Rattle.affine_grammar.specs.Grammar.{Leaf, Other}
 use Rattle.affine_lex.proofs.Tests.{true_no}
 use Rattle.printed_texts.specs.Nesting.{Depths, unary_depths, literal_depths, depths, Zeros, zeros}
 use Rattle.printed_texts.proofs.Pieces.{is_word_first, is_word_byte, tok, Prints, seq, in_left, in_right, loosen}
-use Rattle.printed_texts.proofs.Marks.{NoArrow, is_keyword, word_piece, name_piece, number_piece, IsValueName, all_word, decimal_digits}
+use Rattle.printed_texts.proofs.Marks.{NoArrow, is_keyword, word_piece, name_piece, number_piece, IsValueName, all_word, decimal_digits, is_within}
 use Rattle.printed_texts.proofs.Given.{Given, given_left, given_right, given_one, limited_some, of_keyword_some, of_value_some, value_name, integer_given, negative_given}
 use Rattle.printed_texts.proofs.Depths.{depths-Dim, depths-Sym, depths-Const, zeros-Const}
 use Rattle.printed_texts.proofs.Places.{Placed, placed_unary, placed_number, placed_negative, parens}
@@ -54,19 +54,16 @@ counted_some f s None p h = absurd cc
 counted_moved : (l : Leaves) (d : ℕ) (s : State) (x : Expr) → ◌≡◌ {A = Option (Expr × State)} (Some (x, counting (moved l d s))) (Some (x, moved l d (counting s)))
 counted_moved l d s x = ap (λ (t : State). let o : Option (Expr × State) = Some (x, t) in o) (moved_counting l d s)
 
-small_le : (n m : ℕ) → n ≤ m → nat_le n m ≡ true
-small_le n m h = grind (arith, nat_tests)
-
 number_again : (l : Leaves) (d : ℕ) (s : State) (n : ℕ) → n ≤ 9223372036854775807 → is_full (moved l d s) ≡ false → Prints true (decimal n) (One (number (moved l d s))) (e.Const (pos n), moved l d (counting s))
 number_again l d s n h f = number_piece n (number (moved l d s)) _ (omega (arith, h)) (λ line column.
     open_limit (is_full (moved l d s)) (λ t. counted_leaf (λ z. e.Const z) (moved l d s) (integer t)) (k.Int n, decimal n) line column f
-    ∙ ap (λ b. counted_leaf (λ z. e.Const z) (moved l d s) (if b then Some (pos n) else None)) (small_le n 9223372036854775807 h)
+    ∙ ap (λ b. counted_leaf (λ z. e.Const z) (moved l d s) (if b then Some (pos n) else None)) (is_within n 9223372036854775807 h)
     ∙ counted_moved l d s (e.Const (pos n)))
 
 negative_again : (l : Leaves) (d : ℕ) (s : State) (n : ℕ) → n ≤ 9223372036854775808 → is_full (moved l d s) ≡ false → Prints true (decimal n) (One (negative_number (moved l d s))) (e.Const (neg_ℤ (pos n)), moved l d (counting s))
 negative_again l d s n h f = number_piece n (negative_number (moved l d s)) _ (omega (arith, h)) (λ line column.
     open_limit (is_full (moved l d s)) (λ t. counted_leaf (λ z. e.Const z) (moved l d s) (negative t)) (k.Int n, decimal n) line column f
-    ∙ ap (λ b. counted_leaf (λ z. e.Const z) (moved l d s) (if b then Some (neg_ℤ (pos n)) else None)) (small_le n 9223372036854775808 h)
+    ∙ ap (λ b. counted_leaf (λ z. e.Const z) (moved l d s) (if b then Some (neg_ℤ (pos n)) else None)) (is_within n 9223372036854775808 h)
     ∙ counted_moved l d s (e.Const (neg_ℤ (pos n))))
 
 -- an integer is spelled again, whatever its sign

@@ -1,5 +1,5 @@
 -- Single tokens of printed texts.
-use Rattle.std.proofs.Common.{◌≡◌, ℕ, ◌==◌, ◌&&◌, ◌||◌, ◌≤◌, ◌<◌, ◌^◌, not, Bool, true, false, cond, if◌then◌else◌, List, [], ◌∷◌, ◌++◌, slice_index, length, Option, Some, None, decimal, refl, sym, ap, subst, ◌⊎◌, inl, inr, bytes_eq, codes, arith}
+use Rattle.std.proofs.Common.{◌≡◌, ℕ, ◌==◌, ◌&&◌, ◌||◌, ◌≤◌, ◌<◌, ◌^◌, not, Bool, true, false, cond, if◌then◌else◌, List, [], ◌∷◌, ◌++◌, slice_index, length, Option, Some, None, decimal, refl, sym, ap, subst, ◌⊎◌, inl, inr, bytes_eq, codes, arith, suc, nat_le}
 use Rattle.std.proofs.lemmas.Bool.Decides.{nat_tests}
 use Rattle.std.proofs.lemmas.Str.Parse.{digit_from_value}
 use Rattle.std.proofs.lemmas.Fmt.{decimal_is_IsNumeral_wide}
@@ -13,7 +13,7 @@ use Rattle.affine_lex.specs.declared.token.Kind.TheVariants as k
 use Rattle.affine_lex.proofs.Tests.{true_no, and_left, and_right}
 use Rattle.affine_lex.proofs.Written.{AreCut, cut_token, word_again, value_again, value_digits_again, symbol_again, int_again, sign_again, arrow_again, greater_equal_again, less_equal_again, equal_again, is_pair}
 use Rattle.affine_grammar.specs.Token.{Tok, sign, word}
-use Rattle.printed_texts.proofs.Pieces.{tok, ends, is_word_first, is_word_byte, is_id_byte, is_white, Cuts, Closes, Prints, piece, tight_sign}
+use Rattle.printed_texts.proofs.Pieces.{tok, ends, is_word_first, is_word_byte, is_id_byte, is_white, Cuts, Closes, Prints, piece, tight_sign, blank_before, blank_behind}
 
 -- ---- what ends a token
 
@@ -191,10 +191,10 @@ decimal_digits n h = let i = decimal_is_IsNumeral_wide n (wide n h) in some_digi
 pub decimal_value : (n : ℕ) → n < 2 ^ 64 → digits_value 10 (decimal n) ≡ n
 decimal_value n h = (decimal_is_IsNumeral_wide n (wide n h)).1
 
-digit_no_white : (b : ℕ) → is_ascii_digit b ≡ true → is_white b ≡ false
+pub digit_no_white : (b : ℕ) → is_ascii_digit b ≡ true → is_white b ≡ false
 digit_no_white b h = grind (arith, nat_tests)
 
-digit_no_slash : (b : ℕ) → is_ascii_digit b ≡ true → (b == 47) ≡ false
+pub digit_no_slash : (b : ℕ) → is_ascii_digit b ≡ true → (b == 47) ≡ false
 digit_no_slash b h = grind (arith, nat_tests)
 
 digits_cut : (w : List ℕ) → IsDigits w → digits_value 10 w ≤ 2 ^ 63 → Cuts true w ((k.Int (digits_value 10 w), w) ∷ [])
@@ -206,3 +206,30 @@ number_piece n p x l a =
     let s : n < 2 ^ 64 = omega (arith, l) in
     let v = decimal_value n s in
     piece (k.Int n) (decimal n) p x (subst (λ m. Cuts true (decimal n) ((k.Int m, decimal n) ∷ [])) v (digits_cut (decimal n) (decimal_digits n s) (omega (arith, v, l)))) a
+
+digit_no_arrow : (b : ℕ) → is_ascii_digit b ≡ true → (b == 62) ≡ false
+digit_no_arrow b h = grind (arith, nat_tests)
+
+-- digits don't begin with `>`
+pub digits_no_arrow : (w : List ℕ) → IsDigits w → NoArrow true w
+digits_no_arrow [] i = absurd i
+digits_no_arrow (b ∷ w) i = λ r c. digit_no_arrow b i.0
+
+-- ---- separators
+
+pub comma : Prints false (codes ", ") (One (sign 44)) tt
+comma = blank_behind comma_sign
+
+pub colon : Prints false (codes " : ") (One (sign 58)) tt
+colon = blank_before (blank_behind colon_sign)
+
+-- ---- tests of numbers
+
+pub is_within : (n m : ℕ) → n ≤ m → nat_le n m ≡ true
+is_within n m h = grind (arith, nat_tests)
+
+pub within_is : (n m : ℕ) → nat_le n m ≡ true → n ≤ m
+within_is n m h = grind (arith, nat_tests)
+
+pub suc_no : (n : ℕ) → (suc n == 0) ≡ false
+suc_no n = grind (arith, nat_tests)

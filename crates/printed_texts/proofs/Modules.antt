@@ -24,7 +24,7 @@ use Rattle.affine_grammar.specs.GrammarFile.{RangeEnd, Range, ArgumentKind, Argu
 use Rattle.printed_texts.specs.Nesting.{StatementsNest, ModuleNests}
 use Rattle.printed_texts.specs.Lines.{unlined_argument, AreSameButLines}
 use Rattle.printed_texts.proofs.Pieces.{Are, parted, Joins, Cuts, join_cut, Prints, seq, prints_as, in_left, in_right, giving, nothing, loosen, blank_before, blank_behind}
-use Rattle.printed_texts.proofs.Marks.{keyword, equals_sign, open_brace, close_brace, open_paren, close_paren, open_square, close_square, comma_sign, colon_sign}
+use Rattle.printed_texts.proofs.Marks.{keyword, equals_sign, open_brace, close_brace, open_paren, close_paren, open_square, close_square, comma_sign, colon_sign, comma}
 use Rattle.printed_texts.proofs.Given.{Given, IsWritten, given_left, given_right, given_one, value_given, value_prints, function_given, function_prints}
 use Rattle.printed_texts.proofs.Lists.{more_text, more_joins}
 use Rattle.printed_texts.proofs.Maps.{map_told, set_told}
@@ -205,9 +205,6 @@ record MorePrints (args : List Arg) : Type 0 where
   pieces : List Piece
   cut : Cuts true (more_text arg_text args) pieces
   spelled : (us : List Tok) → Are pieces us → (acc : List Arg) → SpelledArguments args us acc
-
-comma : Prints false (codes ", ") (One (sign 44)) tt
-comma = blank_behind comma_sign
 
 more_again : (args : List Arg) → AllTold args → MorePrints args
 more_again [] t = record { pieces = []; cut = λ rest qs c h. h; spelled = λ us a acc. record { stands = []; same = refl; spelled = subst (λ l. Many NextArgument acc us l) (sym (append-nil acc)) (none acc us a) } }

@@ -1,6 +1,5 @@
 -- The parameters of printed maps and sets, and those of a given text.
-use Rattle.std.proofs.Common.{◌≡◌, ℕ, zero, suc, ◌+◌, ◌≤◌, ◌<◌, ◌==◌, ◌&&◌, ◌^◌, Bool, true, false, if◌then◌else◌, List, [], ◌∷◌, ◌++◌, length, Option, Some, None, decimal, codes, refl, sym, ap, ◌∙◌, subst, append_assoc, length-append, inl, inr, arith}
-use Rattle.std.proofs.lemmas.Bool.Decides.{nat_tests}
+use Rattle.std.proofs.Common.{◌≡◌, ℕ, zero, suc, ◌+◌, ◌≤◌, ◌<◌, ◌&&◌, ◌^◌, Bool, true, false, if◌then◌else◌, List, [], ◌∷◌, ◌++◌, length, Option, Some, None, decimal, codes, refl, sym, ap, ◌∙◌, subst, append_assoc, length-append, inl, inr, arith}
 use Rattle.std.specs.List.{range_with_len}
 use Rattle.std.specs.Char.{is_ascii}
 use Rattle.std.specs.Str.{bytes_eq}
@@ -12,7 +11,7 @@ use Rattle.affine_grammar.specs.Token.{Tok, sign, fresh, number_of, next, named,
 use Rattle.affine_grammar.specs.Grammar.{Parameter, NextParameter, ParameterList, SymbolList, Params}
 use Rattle.affine_grammar.proofs.Names.{string_is}
 use Rattle.printed_texts.proofs.Pieces.{ends, Prints, seq, prints_as, in_left, in_right, giving, nothing, no_item, item_then, is_word_first, blank_behind}
-use Rattle.printed_texts.proofs.Marks.{word_piece, open_paren, close_paren, open_square, close_square, comma_sign, decimal_digits}
+use Rattle.printed_texts.proofs.Marks.{word_piece, open_paren, close_paren, open_square, close_square, comma_sign, decimal_digits, suc_no}
 use Rattle.printed_texts.proofs.Given.{Given, name_ascii}
 use Rattle.printed_texts.proofs.States.{param, params, params_snoc, param_none, symbol_none}
 use Rattle.printed_texts.proofs.Leaves.{param_word}
@@ -95,9 +94,6 @@ module _ (letter : ℕ) (before : List Name) (l : Lettered letter before) where
 
 abbrev pub scope_of : ℕ → ℕ → Scope
 scope_of dims syms = record { dims = params 100 0 dims; syms = params 115 0 syms }
-
-suc_no : (n : ℕ) → (suc n == 0) ≡ false
-suc_no n = grind (arith, nat_tests)
 
 symbols_again : (dims syms : ℕ) → syms < 2 ^ 64 → Prints false (symbols_text syms) (Optional (SymbolList (params 100 0 dims)) []) (params 115 0 syms)
 unfolding symbols_text numbered_text

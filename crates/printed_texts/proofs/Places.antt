@@ -1,11 +1,8 @@
 -- The places in which an expression may stand, and how its spelling in each is put together.
-use Rattle.std.proofs.Common.{◌≡◌, ℕ, zero, suc, ◌≤◌, ◌<◌, ◌==◌, ◌^◌, pos, negsuc, true, false, List, [], ◌∷◌, ◌++◌, decimal, codes, refl, ap, ◌∙◌, append_assoc, inl, arith}
-use Rattle.std.proofs.lemmas.Bool.Decides.{nat_tests}
-use Rattle.std.specs.Char.{is_ascii_digit}
+use Rattle.std.proofs.Common.{ℕ, zero, suc, ◌≤◌, ◌<◌, ◌^◌, pos, negsuc, true, false, List, [], ◌∷◌, ◌++◌, decimal, codes, refl, ap, ◌∙◌, append_assoc, inl, arith}
 use Rattle.readers.specs.Languages.{Lang, One, Both, Many, Enclosed}
 use Rattle.readers.proofs.Texts.{many_snoc, chain_one}
 use Rattle.affine_lex.specs.Scan.{after_word}
-use Rattle.affine_lex.specs.Tokens.{IsDigits}
 use Rattle.affine_lex.specs.declared.token.Kind.TheVariants as k
 use Rattle.affine_lex.proofs.Written.{cut_blank, cut_token, sign_again}
 use Rattle.affine_expr.specs.declared.expr.Expr.{Expr}
@@ -18,7 +15,7 @@ use Rattle.affine_grammar.specs.Token.{Tok, sign, sum_op, product_op, product_wo
 use Rattle.affine_grammar.specs.Grammar.{Spelling, Factor, Product, Summand, Sum, Other, Unary}
 use Rattle.printed_texts.specs.Nesting.{Depths, sum_depths, product_depths, unary_depths, literal_depths}
 use Rattle.printed_texts.proofs.Pieces.{tok, Prints, seq, loosen, recast, in_left, in_right, giving, blank_before, blank_behind}
-use Rattle.printed_texts.proofs.Marks.{NoArrow, open_paren, close_paren, minus_then, word_piece, tight_piece, decimal_digits}
+use Rattle.printed_texts.proofs.Marks.{NoArrow, digits_no_arrow, open_paren, close_paren, minus_then, word_piece, tight_piece, decimal_digits}
 
 -- ---- parentheses
 
@@ -28,14 +25,11 @@ parens {x = x} p = seq open_paren tt (seq p (λ r c. refl) (giving (λ _. x) clo
 -- ---- operators
 
 minus_blank : Prints false (45 ∷ 32 ∷ []) (One sum_op) operator.Sub
-minus_blank = piece_minus
-  where
-    piece_minus : Prints false (45 ∷ 32 ∷ []) (One sum_op) operator.Sub
-    piece_minus = record {
-      pieces = (k.Punct 45, 45 ∷ []) ∷ [];
-      cut = λ rest qs c h. cut_token (after_word []) (k.Punct 45) 45 [] (32 ∷ rest) qs refl refl (sign_again false 45 (32 ∷ rest) refl refl) (cut_blank (after_word []) 32 rest qs refl h);
-      spelled = λ us h. record { token = tok (k.Punct 45, 45 ∷ []) h.0 h.1.0; alone = h.1.1.1.0 ∙ ap (λ r. tok (k.Punct 45, 45 ∷ []) h.0 h.1.0 ∷ r) h.1.1.1.1; accepted = refl };
-    }
+minus_blank = record {
+  pieces = (k.Punct 45, 45 ∷ []) ∷ [];
+  cut = λ rest qs c h. cut_token (after_word []) (k.Punct 45) 45 [] (32 ∷ rest) qs refl refl (sign_again false 45 (32 ∷ rest) refl refl) (cut_blank (after_word []) 32 rest qs refl h);
+  spelled = λ us h. record { token = tok (k.Punct 45, 45 ∷ []) h.0 h.1.0; alone = h.1.1.1.0 ∙ ap (λ r. tok (k.Punct 45, 45 ∷ []) h.0 h.1.0 ∷ r) h.1.1.1.1; accepted = refl };
+}
 
 pub plus_op : Prints false (codes " + ") (One sum_op) operator.Add
 plus_op = blank_before (blank_behind (tight_piece 43 sum_op operator.Add refl refl refl (λ r. refl) (λ line column. refl)))
@@ -86,13 +80,6 @@ module _ (U : State → Spelling) where
   sum_more {x = x} {y = y} o p q r =
       let item : Prints true _ (Summand U x) (joined o x.0 y.0, y.1) = seq q tt (giving (λ (z : Expr × State). (joined o x.0 z.0, z.1)) r) in
       recast (seq p (λ r c. refl) item) (λ us h. chain_snoc us _ h)
-
-digit_no_arrow : (b : ℕ) → is_ascii_digit b ≡ true → (b == 62) ≡ false
-digit_no_arrow b h = grind (arith, nat_tests)
-
-digits_plain : (w : List ℕ) → IsDigits w → NoArrow true w
-digits_plain [] i = absurd i
-digits_plain (b ∷ w) i = λ r c. digit_no_arrow b i.0
 
 -- ---- the four places
 
@@ -163,4 +150,4 @@ module _ (l : Leaves) where
     minus_number (suc n) p = in_left (recast p (λ us h. record { value = h.value; left = h.left; right = h.right; parts = h.parts; first = h.first; second = inl h.second }))
 
     pub placed_negative : (z : ℕ) → suc z < 2 ^ 64 → Prints true (decimal (suc z)) (One (negative_number s)) x → Placed (as_literal (negsuc z)) (literal_depths (negsuc z)) s x
-    placed_negative z l p = placed_unary (45 ∷ decimal (suc z)) 0 (λ n h. minus_number n (minus_then p (digits_plain (decimal (suc z)) (decimal_digits (suc z) l)))) (λ r c. refl)
+    placed_negative z l p = placed_unary (45 ∷ decimal (suc z)) 0 (λ n h. minus_number n (minus_then p (digits_no_arrow (decimal (suc z)) (decimal_digits (suc z) l)))) (λ r c. refl)

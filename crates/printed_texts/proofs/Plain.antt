@@ -22,11 +22,11 @@ use Rattle.affine_grammar.specs.declared.words.Alias.{Alias}
 use Rattle.affine_grammar.specs.declared.words.Action.TheVariants as action
 use Rattle.affine_grammar.specs.declared.words.Definition.{Definition}
 use Rattle.affine_grammar.specs.declared.words.Definition.TheVariants as definition
-use Rattle.affine_grammar.specs.Token.{Tok, sign, value, definition_word, definition_of, action_word, action_of}
+use Rattle.affine_grammar.specs.Token.{Tok, value, definition_word, definition_of, action_word, action_of}
 use Rattle.affine_grammar.specs.GrammarFile.{Typed, Regions, Defined, Acted, Part, Stride}
 use Rattle.printed_texts.specs.Nesting.{StatementsNest, UseNests}
 use Rattle.printed_texts.proofs.Pieces.{ends, Prints, seq, in_left, in_right, giving, nothing, loosen, blank_before, blank_behind}
-use Rattle.printed_texts.proofs.Marks.{keyword, word_piece, open_paren, close_paren, comma_sign, colon_sign}
+use Rattle.printed_texts.proofs.Marks.{keyword, word_piece, open_paren, close_paren, comma, colon}
 use Rattle.printed_texts.proofs.Given.{Given, IsWritten, given_left, given_right, given_one, value_given, value_prints}
 use Rattle.printed_texts.proofs.Uses.{AliasesTold, ToldUse, use_told, ToldSubscripts, subscripts_told, AllWritten, brackets_told, brackets_again}
 use Rattle.printed_texts.proofs.Types.{InRange, signed_told, signed_again, TypeTold, memref_told, memref_again, typed_again, scalar_again}
@@ -87,12 +87,6 @@ constant_word = blank_behind (word_piece (codes "arith.constant") definition_wor
 alloc_word : Prints true (codes "memref.alloc") (One definition_word) definition.Alloc
 unfolding definition_of
 alloc_word = word_piece (codes "memref.alloc") definition_word definition.Alloc refl (λ line column. refl)
-
-comma : Prints false (codes ", ") (One (sign 44)) tt
-comma = blank_behind comma_sign
-
-colon : Prints false (codes " : ") (One (sign 58)) tt
-colon = blank_before (blank_behind colon_sign)
 
 module _ (r : Name) (total : ℕ) where
   value_definition : (p : Pick) (at : Access) (behind : ℕ) → ToldUse at total behind → ToldDefinition r (what.Value r p at) total behind

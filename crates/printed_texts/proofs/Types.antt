@@ -1,5 +1,5 @@
 -- Types and integers of a given text are spelled again.
-use Rattle.std.proofs.Common.{◌≡◌, ℕ, zero, suc, ◌+◌, ◌-◌, ◌≤◌, ◌==◌, ◌||◌, ℤ, pos, negsuc, neg_ℤ, nat_le, Bool, true, false, if◌then◌else◌, List, [], ◌∷◌, ◌++◌, slice_index, length, take, Some, None, flat_map, decimal, codes, refl, sym, ap, ◌∙◌, subst, append_assoc, append-nil, length-append, inl, inr, arith}
+use Rattle.std.proofs.Common.{◌≡◌, ℕ, zero, suc, ◌+◌, ◌-◌, ◌≤◌, ◌==◌, ◌||◌, ℤ, pos, negsuc, neg_ℤ, Bool, true, false, if◌then◌else◌, List, [], ◌∷◌, ◌++◌, slice_index, length, take, Some, None, flat_map, decimal, codes, refl, sym, ap, ◌∙◌, subst, append_assoc, append-nil, length-append, inl, inr, arith}
 use Rattle.std.proofs.lemmas.Bool.Decides.{nat_tests}
 use Rattle.std.proofs.Math.Seq.{take-append_seam}
 use Rattle.std.specs.Fmt.{signed_decimal}
@@ -20,7 +20,7 @@ use Rattle.affine_grammar.specs.Token.{Tok, class, sign, integer, negative, size
 use Rattle.affine_grammar.specs.Grammar.{SpaceType, Space, Shape, Memref, Signed}
 use Rattle.affine_grammar.specs.GrammarFile.{Typed}
 use Rattle.printed_texts.proofs.Pieces.{tok, Are, parted, ends, Closes, Joins, Cuts, Prints, seq, prints_as, in_left, in_right, giving, nothing, blank_before, blank_behind}
-use Rattle.printed_texts.proofs.Marks.{NoArrow, ends_id, id_word, word_form, word_piece, number_piece, minus_then, greater_sign, comma_sign, colon_sign, decimal_digits, decimal_value}
+use Rattle.printed_texts.proofs.Marks.{ends_id, id_word, word_form, word_piece, number_piece, minus_then, greater_sign, comma_sign, colon_sign, decimal_digits, decimal_value, digit_no_white, digit_no_slash, digits_no_arrow, is_within, suc_no}
 use Rattle.printed_texts.proofs.Given.{within_some, of_size_some, integer_given, negative_given, space_given}
 
 -- ---- where sizes may stand
@@ -64,13 +64,7 @@ element_again el.I64 = sized_word 105 (54 ∷ 52 ∷ []) el.I64 (word_form 105 (
 -- ---- spaces
 
 space_piece : (n : ℕ) → n ≤ 255 → Prints true (decimal n) (One space) n
-space_piece n h = number_piece n space n (omega (arith, h)) (λ line column. ap (λ b. if b then Some n else None) (small_le n h))
-  where
-    small_le : (n : ℕ) → n ≤ 255 → nat_le n 255 ≡ true
-    small_le n h = grind (arith, nat_tests)
-
-space_no : (n : ℕ) → (suc n == 0) ≡ false
-space_no n = grind (arith, nat_tests)
+space_piece n h = number_piece n space n (omega (arith, h)) (λ line column. ap (λ b. if b then Some n else None) (is_within n 255 h))
 
 space_again : (n : ℕ) → n ≤ 255 → Prints true (space_text n) (Optional Space 0) n
 unfolding space_text
@@ -79,12 +73,12 @@ space_again (suc n) h =
     let m : ℕ = suc n in
     let x : Prints true (decimal m) (Both (One space) (λ n. Optional (SpaceType n) n)) m = prints_as (seq (space_piece m h) (λ r c. c) (in_right {L = SpaceType m} (nothing {o = true} m))) (append-nil (decimal m)) in
     let p : Prints true (codes ", " ++ decimal m) (Optional Space 0) m = in_left (seq (blank_behind comma_sign) tt x) in
-    prints_as p (sym (ap (λ b. if b then [] else (codes ", " ++ decimal m)) (space_no n)))
+    prints_as p (sym (ap (λ b. if b then [] else (codes ", " ++ decimal m)) (suc_no n)))
 
 space_joins : (n : ℕ) (r : List ℕ) → ends r ≡ true → ends (space_text n ++ r) ≡ true
 unfolding space_text
 space_joins zero r h = h
-space_joins (suc n) r h = ap (λ b. ends ((if b then [] else (codes ", " ++ decimal (suc n))) ++ r)) (space_no n)
+space_joins (suc n) r h = ap (λ b. ends ((if b then [] else (codes ", " ++ decimal (suc n))) ++ r)) (suc_no n)
 
 -- ---- sizes
 
@@ -94,16 +88,7 @@ take_front x b = let e : length (x ++ b ∷ []) - 1 ≡ length x = omega (arith,
 size_accepted : (n line column : ℕ) → n ≤ 4294967295 → size (tok (k.Sizes, size_text n) line column) ≡ Some n
 unfolding size_text
 size_accepted n line column h =
-    ap (λ w. within 4294967295 (digits_value 10 w)) (take_front (decimal n) 120) ∙ ap (within 4294967295) (decimal_value n (omega (arith, h))) ∙ ap (λ b. if b then Some n else None) (small_le n h)
-  where
-    small_le : (n : ℕ) → n ≤ 4294967295 → nat_le n 4294967295 ≡ true
-    small_le n h = grind (arith, nat_tests)
-
-digit_no_white : (b : ℕ) → is_ascii_digit b ≡ true → (b == 32 || b == 9 || b == 13 || b == 10) ≡ false
-digit_no_white b h = grind (arith, nat_tests)
-
-digit_no_slash : (b : ℕ) → is_ascii_digit b ≡ true → (b == 47) ≡ false
-digit_no_slash b h = grind (arith, nat_tests)
+    ap (λ w. within 4294967295 (digits_value 10 w)) (take_front (decimal n) 120) ∙ ap (within 4294967295) (decimal_value n (omega (arith, h))) ∙ ap (λ b. if b then Some n else None) (is_within n 4294967295 h)
 
 sizes_cut : (x rest : List ℕ) (qs : List Piece) → IsDigits x → AreCut (after_punct (after_word (codes "memref")) 60) rest qs → AreCut (after_punct (after_word (codes "memref")) 60) ((x ++ 120 ∷ []) ++ rest) ((k.Sizes, x ++ 120 ∷ []) ∷ qs)
 sizes_cut [] rest qs i h = absurd i
@@ -270,23 +255,10 @@ signed_told z f (inl h) = let i = negative_given h.second.token z h.second.accep
 signed_told z f (inr h) = let i = integer_given h.token z h.accepted in Positive i.magnitude i.is i.small
 
 pub integer_again : (n : ℕ) → n ≤ 9223372036854775807 → Prints true (decimal n) (One integer) (pos n)
-integer_again n h = number_piece n integer (pos n) (omega (arith, h)) (λ line column. ap (λ b. if b then Some (pos n) else None) (small_le n h))
-  where
-    small_le : (n : ℕ) → n ≤ 9223372036854775807 → nat_le n 9223372036854775807 ≡ true
-    small_le n h = grind (arith, nat_tests)
+integer_again n h = number_piece n integer (pos n) (omega (arith, h)) (λ line column. ap (λ b. if b then Some (pos n) else None) (is_within n 9223372036854775807 h))
 
 negative_again : (n : ℕ) → suc n ≤ 9223372036854775808 → Prints true (decimal (suc n)) (One negative) (negsuc n)
-negative_again n h = number_piece (suc n) negative (negsuc n) (omega (arith, h)) (λ line column. ap (λ b. if b then Some (negsuc n) else None) (small_le n h))
-  where
-    small_le : (n : ℕ) → suc n ≤ 9223372036854775808 → nat_le (suc n) 9223372036854775808 ≡ true
-    small_le n h = grind (arith, nat_tests)
-
-digit_no_arrow : (b : ℕ) → is_ascii_digit b ≡ true → (b == 62) ≡ false
-digit_no_arrow b h = grind (arith, nat_tests)
-
-digits_no_arrow : (w : List ℕ) → IsDigits w → NoArrow true w
-digits_no_arrow [] i = absurd i
-digits_no_arrow (b ∷ w) i = λ r c. digit_no_arrow b i.0
+negative_again n h = number_piece (suc n) negative (negsuc n) (omega (arith, h)) (λ line column. ap (λ b. if b then Some (negsuc n) else None) (is_within (suc n) 9223372036854775808 h))
 
 pub signed_again : (z : ℤ) → InRange z → Prints true (signed_decimal z) Signed z
 signed_again z (Positive n e h) = subst (λ x. Prints true (signed_decimal x) Signed x) (sym e) (in_right (integer_again n h))

@@ -2,7 +2,7 @@
 use Rattle.std.proofs.Common.{◌≡◌, ℕ, zero, suc, ◌+◌, ◌≤◌, ◌&&◌, ◌||◌, nat_le, not, Bool, true, false, if◌then◌else◌, List, [], ◌∷◌, ◌++◌, length, take, drop, Option, Some, None, codes, bytes_eq, refl, sym, ap, ◌∙◌, subst, append_assoc, append-nil, inl, inr, arith}
 use Rattle.std.proofs.lemmas.Bool.Decides.{nat_tests}
 use Rattle.std.proofs.Math.Seq.{take-append_seam, drop-append_seam}
-use Rattle.readers.specs.Languages.{Lang, Nothing, One, Both, Many, none, more, Linked, Times, Exactly, Enclosed, Listed}
+use Rattle.readers.specs.Languages.{Lang, Nothing, Both, Many, none, more, Linked, Times, Exactly, Enclosed, Listed}
 use Rattle.affine_expr.specs.declared.expr.Expr.{Expr}
 use Rattle.affine_expr.specs.declared.map.Map.{Map}
 use Rattle.affine_expr.specs.declared.map.Set.{Set}
@@ -18,8 +18,8 @@ use Rattle.affine_grammar.specs.Token.{Tok, class, sign, alias_in, map_body, map
 use Rattle.affine_grammar.specs.Grammar as grammar
 use Rattle.affine_grammar.specs.Grammar.{Result, NextResult, Map0, Set0, OneValue, Values, SymbolValues, Operands, SomeMap, SomeSet, Use, no_values, access_with, Subscripts, NextValue, Brackets}
 use Rattle.printed_texts.specs.Nesting.{AllNest, RowsNest, UseNests}
-use Rattle.printed_texts.proofs.Pieces.{Prints, seq, prints_as, in_left, in_right, giving, nothing, no_item, item_then, blank_behind}
-use Rattle.printed_texts.proofs.Marks.{open_square, close_square, comma_sign}
+use Rattle.printed_texts.proofs.Pieces.{Prints, seq, prints_as, in_left, in_right, giving, nothing, no_item, item_then}
+use Rattle.printed_texts.proofs.Marks.{open_square, close_square, comma}
 use Rattle.printed_texts.proofs.Given.{Given, IsWritten, given_left, given_right, given_one, value_given, value_prints, of_alias_some}
 use Rattle.printed_texts.proofs.Places.{parens}
 use Rattle.printed_texts.proofs.States.{grown_same, printed_leaves, moved, Room}
@@ -87,11 +87,8 @@ values_told opening close n vs f g h =
     let i = h.second in
     subst (ToldValues n) (sym i.second.second.1) (exactly_told n i.value i.left (given_left h.right i.left i.right i.parts (given_right f h.left h.right h.parts g)) i.first)
 
-comma_blank : Prints false (codes ", ") (One (sign 44)) tt
-comma_blank = blank_behind comma_sign
-
 next_again : (b : List Name) (n : Name) → IsWritten n → Prints true (codes ", " ++ name_text n) (NextOne b) (b ++ n ∷ [])
-next_again b n h = seq comma_blank tt (giving (λ v. b ++ v ∷ []) (value_prints n h))
+next_again b n h = seq comma tt (giving (λ v. b ++ v ∷ []) (value_prints n h))
 
 times_again : (items b : List Name) → AllWritten items → Prints true (more_text name_text items) (Times (length items) NextOne b) (b ++ items)
 times_again [] b h = subst (λ c. Prints true [] (Nothing b) c) (sym (append-nil b)) (nothing b)
