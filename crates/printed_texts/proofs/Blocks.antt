@@ -136,7 +136,7 @@ acted_spelled R total after w v us acc e h =
       });
     }
 
-defined_told : (R : Regions) (r : Name) (w : What) (total after : ℕ) → IsWritten r → ToldDefinition r w total after → ToldStatement R w total after
+pub defined_told : (R : Regions) (r : Name) (w : What) (total after : ℕ) → IsWritten r → ToldDefinition r w total after → ToldStatement R w total after
 defined_told R r w total after n t = record {
   small = t.small;
   again = λ margin white h line k.
@@ -145,7 +145,7 @@ defined_told R r w total after n t = record {
       record { pieces = p.pieces; cut = subst (λ b. Cuts true b p.pieces) (sym (t.text_is margin)) p.cut; spelled = λ us a acc. defined_spelled R total after w us acc (p.spelled us a) };
 }
 
-action_told : (R : Regions) (w : What) (total after : ℕ) → ToldAction R w total after → ToldStatement R w total after
+pub action_told : (R : Regions) (w : What) (total after : ℕ) → ToldAction R w total after → ToldStatement R w total after
 action_told R w total after t = record {
   small = t.small;
   again = λ margin white h line k.
@@ -212,10 +212,10 @@ lines_more R margin s ss total middle after white p q = record {
       };
 }
 
-told_none : (R : Regions) (total : ℕ) → ToldLines R [] total total
+pub told_none : (R : Regions) (total : ℕ) → ToldLines R [] total total
 told_none R total = record { small = λ h. h; again = λ margin white h n. lines_none R margin total }
 
-told_more : (R : Regions) (s : Stmt) (ss : List Stmt) (total middle after : ℕ) → ToldStatement R s.what total middle → ToldLines R ss middle after → ToldLines R (s ∷ ss) total after
+pub told_more : (R : Regions) (s : Stmt) (ss : List Stmt) (total middle after : ℕ) → ToldStatement R s.what total middle → ToldLines R ss middle after → ToldLines R (s ∷ ss) total after
 told_more R s ss total middle after t r = record {
   small = λ h. r.small (t.small h);
   again = λ margin white h n.
@@ -278,7 +278,7 @@ unfolding unlined_what
 loop_same v t body stmts h =
     ap unlined (put-For 0 NoStatement v t.lower t.upper t.step body) ∙ ap (λ n. Loop 0 v t.lower t.upper t.step n NoStatement) h ∙ sym (ap unlined (put-For 0 NoStatement v t.lower t.upper t.step stmts))
 
-loop_told : (left : ℕ) (v : Name) (t : Turns) (body : List Stmt) (total after : ℕ) → IsWritten v → ToldTurns t total → ToldRegion (Region [] left) body t.total after → ToldStatement (Region [] left) (what.For v t.lower t.upper t.step body) total after
+pub loop_told : (left : ℕ) (v : Name) (t : Turns) (body : List Stmt) (total after : ℕ) → IsWritten v → ToldTurns t total → ToldRegion (Region [] left) body t.total after → ToldStatement (Region [] left) (what.For v t.lower t.upper t.step body) total after
 unfolding for_text named_text block_text
 loop_told left v t body total after n turns region = record { small = λ h. region.small (turns.small h); again = again }
   where
@@ -356,7 +356,7 @@ two_regions R set vs margin first other total middle after p o = record {
         let e : Else R b.1 i.right (Some ts, after) = subst (λ n. Else R n i.right (Some ts, after)) (sym y.1.0.1) (subst (λ r. Else R middle i.right r) z.1.0.1.0 z.1.1) in
         ((what.If set vs b.0 (Some ts), after), ((else_same set vs first b.0 other ts y.1.0.0 z.1.0.1.1, refl), record { value = b; left = i.left; right = i.right; parts = i.parts; first = y.1.1; second = giving_text (λ (r : Option (List Stmt) × ℕ). (what.If set vs b.0 r.0, r.1)) i.right (Some ts, after) (inl e) }))
 
-if_told : (left : ℕ) (set : Set) (vs : List Name) (first : List Stmt) (total middle after : ℕ) → UsedSet set total middle → ToldOperands set.dims set.syms vs → ToldRegion (Region [] left) first middle after → ToldStatement (Region [] left) (what.If set vs first None) total after
+pub if_told : (left : ℕ) (set : Set) (vs : List Name) (first : List Stmt) (total middle after : ℕ) → UsedSet set total middle → ToldOperands set.dims set.syms vs → ToldRegion (Region [] left) first middle after → ToldStatement (Region [] left) (what.If set vs first None) total after
 unfolding if_text set_text block_text operands_text
 if_told left set vs first total middle after s o region = record { small = λ h. region.small (s.small h); again = again }
   where
@@ -370,7 +370,7 @@ if_told left set vs first total middle after s o region = record { small = λ h.
         let e = if_pieces (codes "affine.if ") (opening_text (codes "affine_set<") set.dims set.syms) (rows_text set.rows) (operands_text set.dims vs) (codes "{\n") (lines (deeper margin) (nest first)) margin (codes "}") in
         acts_prints (Region [] left) margin (what.If set vs first None) total after (loosen_writes (writes_as whole (sym e ∙ sym (statement-If margin set vs first))))
 
-if_else_told : (left : ℕ) (set : Set) (vs : List Name) (first other : List Stmt) (total n1 n2 after : ℕ) → UsedSet set total n1 → ToldOperands set.dims set.syms vs → ToldRegion (Region [] left) first n1 n2 → ToldRegion (Region [] left) other n2 after → ToldStatement (Region [] left) (what.If set vs first (Some other)) total after
+pub if_else_told : (left : ℕ) (set : Set) (vs : List Name) (first other : List Stmt) (total n1 n2 after : ℕ) → UsedSet set total n1 → ToldOperands set.dims set.syms vs → ToldRegion (Region [] left) first n1 n2 → ToldRegion (Region [] left) other n2 after → ToldStatement (Region [] left) (what.If set vs first (Some other)) total after
 unfolding if_text set_text block_text operands_text else_text
 if_else_told left set vs first other total n1 n2 after s o region otherwise = record { small = λ h. otherwise.small (region.small (s.small h)); again = again }
   where
@@ -507,7 +507,7 @@ statements_told left S aliases known region total p f g h =
     let t = items_told left S aliases known region ([], total) p f g h in
     subst (λ ss. ToldLines (Region [] left) ss total p.1) (sym t.items_are) t.told
 
-region_lines : (left : ℕ) (ss : List Stmt) (total after : ℕ) → ToldLines (Region [] left) ss total after → ToldRegion (Region [] (suc left)) ss total after
+pub region_lines : (left : ℕ) (ss : List Stmt) (total after : ℕ) → ToldLines (Region [] left) ss total after → ToldRegion (Region [] (suc left)) ss total after
 region_lines left ss total after t = record { small = t.small; again = λ margin white h n. region_of left margin ss total after white (t.again (deeper margin) (deeper_white margin white) h n) }
 
 -- a region of a given text is spelled again

@@ -27,15 +27,15 @@ pub record ToldBound (w : List ℕ) (b : Bound) (total behind : ℕ) : Type 0 wh
   pub again : total ≤ 1048576 → BoundNests b → Prints true (bound_text (w ++ codes " ") b) (BoundOf w [] total) (b, behind)
 
 module _ (w : List ℕ) (is_word : is_keyword w ≡ true) (same : bytes_eq w w ≡ true) where
-  int_bound : (total : ℕ) (z : ℤ) → InRange z → ToldBound w (bound.Int z) total total
+  pub int_bound : (total : ℕ) (z : ℤ) → InRange z → ToldBound w (bound.Int z) total total
   unfolding bound_text
   int_bound total z r = record { small = λ h. h; again = λ h n. in_left (giving (λ z. let p : Bound × ℕ = (bound.Int z, total) in p) (signed_again z r)) }
 
-  value_bound : (total : ℕ) (v : Name) → IsWritten v → ToldBound w (bound.Value v) total total
+  pub value_bound : (total : ℕ) (v : Name) → IsWritten v → ToldBound w (bound.Value v) total total
   unfolding bound_text
   value_bound total v h = record { small = λ h. h; again = λ i n. in_right (in_left (giving (λ v. let p : Bound × ℕ = (bound.Value v, total) in p) (value_prints v h))) }
 
-  map_bound : (total : ℕ) (at : Access) (behind : ℕ) → ToldUse at total behind → ToldBound w (bound.Map at) total behind
+  pub map_bound : (total : ℕ) (at : Access) (behind : ℕ) → ToldUse at total behind → ToldBound w (bound.Map at) total behind
   unfolding bound_text pick_text
   map_bound total at behind t = record { small = t.small; again = λ h n. by_case (nat_lt 1 (length at.map.results)) refl h n }
     where
@@ -92,7 +92,7 @@ pub record ToldTurns (t : Turns) (total : ℕ) : Type 0 where
   pub small : total ≤ 1048576 → t.total ≤ 1048576
   pub again : total ≤ 1048576 → BoundNests t.lower → BoundNests t.upper → Prints true (bounds_text t.lower t.upper ++ step_text t.step) (TurnsOf [] total) t
 
-turns_of : (total : ℕ) (p q : Bound × ℕ) (z : ℤ) → ToldBound (codes "max") p.0 total p.1 → ToldBound (codes "min") q.0 p.1 q.1 → IsPositive z → ToldTurns (record { lower = p.0; upper = q.0; step = z; total = q.1 }) total
+pub turns_of : (total : ℕ) (p q : Bound × ℕ) (z : ℤ) → ToldBound (codes "max") p.0 total p.1 → ToldBound (codes "min") q.0 p.1 q.1 → IsPositive z → ToldTurns (record { lower = p.0; upper = q.0; step = z; total = q.1 }) total
 unfolding bounds_text
 turns_of total p q z a b s = record {
   small = λ h. b.small (a.small h);

@@ -81,7 +81,7 @@ neg_again l d final s a p =
     negated zero h = absurd (omega (arith, h))
     negated (suc n) h = in_left (minus_then (in_right (giving (λ (z : Expr × State). (e.Neg z.0, z.1)) (p.negated n (omega (arith, h))))) p.plain)
 
-neg_told : (l : Leaves) (s : State) (a : Expr × State) → Told l s a → Told l s (e.Neg a.0, a.1)
+pub neg_told : (l : Leaves) (s : State) (a : Expr × State) → Told l s a → Told l s (e.Neg a.0, a.1)
 neg_told l s a p = record { grown = p.grown; fixed = p.fixed; placed = λ d final room g. neg_again l d final s a (p.placed d final room g) }
 
 -- ---- depths
@@ -369,13 +369,16 @@ pub record ToldExpression (l : Leaves) (s : State) (p : Expr × State) : Type 0 
   pub fixed : Fixed l s p.1
   pub again : (d : ℕ) (final : State) → Room l d final → Grown p.1 final → nests_within p.0 ≡ true → Prints true (expression_text (printed_leaves l final) p.0) (Expression l (moved l d s)) (p.0, moved l d p.1)
 
-pub expression_told : (l : Leaves) (s : State) (f : List Tok) (p : Expr × State) → Given f → Expression l s f p → ToldExpression l s p
+-- an expression that is spelled again in each place, where its printed spelling nests within the limit
+pub expression_of : (l : Leaves) (s : State) (p : Expr × State) → Told l (begun s) p → (nests_within p.0 ≡ true → (depths p.0).sum ≤ 128) → ToldExpression l s p
 unfolding expression_text
-expression_told l s f p g h =
-    let t = expression_sum l s f p g h in
-    let b = t.told.grown in
+expression_of l s p t w =
+    let b = t.grown in
     record {
       grown = record { dims = b.dims; dims_are = b.dims_are; syms = b.syms; syms_are = b.syms_are; total = b.total; kept = b.kept };
-      fixed = fixed_begun l s p.1 t.told.fixed;
-      again = λ d final room i n. subst (λ u. Prints true (texts (printed_leaves l final) p.0).sum (Sum (Unary l 128) u) (p.0, moved l d p.1)) (moved_begun l d s) ((t.told.placed d final room i).sum 128 (nesting_within p.0 t.within n));
+      fixed = fixed_begun l s p.1 t.fixed;
+      again = λ d final room i n. subst (λ u. Prints true (texts (printed_leaves l final) p.0).sum (Sum (Unary l 128) u) (p.0, moved l d p.1)) (moved_begun l d s) ((t.placed d final room i).sum 128 (w n));
     }
+
+pub expression_told : (l : Leaves) (s : State) (f : List Tok) (p : Expr × State) → Given f → Expression l s f p → ToldExpression l s p
+expression_told l s f p g h = let t = expression_sum l s f p g h in expression_of l s p t.told (nesting_within p.0 t.within)

@@ -75,14 +75,14 @@ const_again l d final s z p =
 one_more : (n : ℕ) → n + 1 ≤ n + 1
 one_more n = omega arith
 
-number_told : (l : Leaves) (s : State) (n : ℕ) → n ≤ 9223372036854775807 → is_full s ≡ false → Told l s (e.Const (pos n), counting s)
+pub number_told : (l : Leaves) (s : State) (n : ℕ) → n ≤ 9223372036854775807 → is_full s ≡ false → Told l s (e.Const (pos n), counting s)
 number_told l s n h f = record {
   grown = grown_counting s f;
   fixed = fixed_counting l s;
   placed = λ d final room g. const_again l d final s (pos n) (placed_number l (moved l d s) _ n (number_again l d s n h (room_left l d s (counting s) final f (one_more s.total) room g)));
 }
 
-negative_told : (l : Leaves) (s : State) (n : ℕ) → n ≤ 9223372036854775808 → is_full s ≡ false → Told l s (e.Const (neg_ℤ (pos n)), counting s)
+pub negative_told : (l : Leaves) (s : State) (n : ℕ) → n ≤ 9223372036854775808 → is_full s ≡ false → Told l s (e.Const (neg_ℤ (pos n)), counting s)
 negative_told l s zero h f = number_told l s 0 (omega arith) f
 negative_told l s (suc n) h f = record {
   grown = grown_counting s f;
@@ -159,7 +159,7 @@ sym_again d s i l h f =
     ∙ ap (λ o. counted_leaf (λ j. e.Sym j) (moved leaves.Parameters d s) o) (param_number 115 0 (length s.syms) i i (omega arith) l h)
     ∙ counted_moved leaves.Parameters d s (e.Sym i))
 
-parameter_told : (s : State) (p : Expr × State) → is_full s ≡ false → IsParameter s p → Told leaves.Parameters s p
+pub parameter_told : (s : State) (p : Expr × State) → is_full s ≡ false → IsParameter s p → Told leaves.Parameters s p
 parameter_told s p f (IsDim i q b) = subst (Told leaves.Parameters s) (sym q) (record {
   grown = grown_counting s f;
   fixed = (refl, refl);
@@ -206,7 +206,7 @@ value_again d s w h f = name_piece w (dimension (moved leaves.Values d s)) _ h (
     open_limit (is_full (moved leaves.Values d s)) (λ t. of_value (λ v. Some (dimension_of (moved leaves.Values d s) v)) (class t)) (k.Value, 37 ∷ w) line column f
     ∙ ap (λ (t : State). let o : Option (Expr × State) = Some (e.Dim (appears w s.dims).0, t) in o) (moved_dims d s (appears w s.dims).1))
 
-dimension_told : (s : State) (w : List ℕ) → IsValueName w → is_full s ≡ false → Told leaves.Values s (dimension_of s w)
+pub dimension_told : (s : State) (w : List ℕ) → IsValueName w → is_full s ≡ false → Told leaves.Values s (dimension_of s w)
 dimension_told s w h f =
     let a = appeared w s.dims h in
     let t : State = with_dims s (appears w s.dims).1 in
@@ -223,7 +223,7 @@ symbol_again : (d : ℕ) (s : State) (w : List ℕ) → IsValueName w → Prints
 symbol_again d s w h = name_piece w (symbol (moved leaves.Values d s)) _ h (λ line column.
     ap (λ (t : State). let o : Option (Expr × State) = Some (e.Sym (appears w s.syms).0, t) in o) (moved_syms d s (appears w s.syms).1))
 
-symbol_told : (s : State) (w : List ℕ) → IsValueName w → is_full s ≡ false → Told leaves.Values s (symbol_of s w)
+pub symbol_told : (s : State) (w : List ℕ) → IsValueName w → is_full s ≡ false → Told leaves.Values s (symbol_of s w)
 symbol_told s w h f =
     let a = appeared w s.syms h in
     let t : State = with_syms s (appears w s.syms).1 in

@@ -51,10 +51,10 @@ pub record ToldList (l : Leaves) (b c : List Expr × State) : Type 0 where
   pub again : (several : Bool) → (several ≡ true) ⊎ (items ≡ []) → (d : ℕ) (final : State) → Room l d final → Grown c.1 final → AllNest items
       → Prints true (more_text (expression_text (printed_leaves l final)) items) (Many (NextResult l several) (b.0, moved l d b.1)) (c.0, moved l d c.1)
 
-list_none : (l : Leaves) (b : List Expr × State) → ToldList l b b
+pub list_none : (l : Leaves) (b : List Expr × State) → ToldList l b b
 list_none l b = record { items = []; items_are = sym (append-nil b.0); grown = grown_same b.1; fixed = fixed_same l b.1; again = λ several s d final room g n. no_item (b.0, moved l d b.1) }
 
-list_more : (l : Leaves) (b c : List Expr × State) (q : Expr × State) → nat_le 8 (length b.0) ≡ false → ToldExpression l b.1 q → ToldList l (b.0 ++ q.0 ∷ [], q.1) c → ToldList l b c
+pub list_more : (l : Leaves) (b c : List Expr × State) (q : Expr × State) → nat_le 8 (length b.0) ≡ false → ToldExpression l b.1 q → ToldList l (b.0 ++ q.0 ∷ [], q.1) c → ToldList l b c
 list_more l b c q h t r = record {
   items = q.0 ∷ r.items;
   items_are = r.items_are ∙ append_assoc b.0 (q.0 ∷ []) r.items;
@@ -110,7 +110,7 @@ pub record ToldRow (b c : List Constraint × State) : Type 0 where
   pub fixed : Fixed leaves.Parameters b.1 c.1
   pub again : (d : ℕ) (final : State) → Room leaves.Parameters d final → Grown c.1 final → nests_within row.left ≡ true → nests_within row.right ≡ true → Prints true (row_text row) (Row (b.0, moved leaves.Parameters d b.1)) (c.0, moved leaves.Parameters d c.1)
 
-row_of : (b : List Constraint × State) (p q : Expr × State) (r : Rel) → ToldExpression leaves.Parameters b.1 p → ToldExpression leaves.Parameters p.1 q → ToldRow b (b.0 ++ record { left = p.0; rel = r; right = q.0 } ∷ [], q.1)
+pub row_of : (b : List Constraint × State) (p q : Expr × State) (r : Rel) → ToldExpression leaves.Parameters b.1 p → ToldExpression leaves.Parameters p.1 q → ToldRow b (b.0 ++ record { left = p.0; rel = r; right = q.0 } ∷ [], q.1)
 unfolding row_text
 row_of b p q r t u = record {
   row = record { left = p.0; rel = r; right = q.0 };
@@ -131,10 +131,10 @@ row_told b c f g h =
     let g4 = given_left r.right q.left q.right q.parts g3 in
     subst (ToldRow b) (sym q.second.1) (row_of b h.value q.value r.value (expression_told leaves.Parameters b.1 h.left h.value g1 h.first) (expression_told leaves.Parameters h.value.1 q.left q.value g4 q.first))
 
-rows_none : (b : List Constraint × State) → ToldRows b b
+pub rows_none : (b : List Constraint × State) → ToldRows b b
 rows_none b = record { items = []; items_are = sym (append-nil b.0); grown = grown_same b.1; fixed = (refl, refl); again = λ d final room g n. no_item (b.0, moved leaves.Parameters d b.1) }
 
-rows_more : (b m c : List Constraint × State) → nat_le 16 (length b.0) ≡ false → ToldRow b m → ToldRows m c → ToldRows b c
+pub rows_more : (b m c : List Constraint × State) → nat_le 16 (length b.0) ≡ false → ToldRow b m → ToldRows m c → ToldRows b c
 rows_more b m c h t r = record {
   items = t.row ∷ r.items;
   items_are = r.items_are ∙ ap (λ l. l ++ r.items) t.row_is ∙ append_assoc b.0 (t.row ∷ []) r.items;

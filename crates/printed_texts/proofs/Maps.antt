@@ -33,7 +33,7 @@ pub record ToldResults (s : State) (b : List Expr × State) : Type 0 where
   pub again : (several : Bool) → (several ≡ true) ⊎ (items ≡ []) → (d : ℕ) → Room leaves.Parameters d b.1 → AllNest b.0
       → Prints false (codes "(" ++ (listed (expression_text parameters) b.0 ++ codes ")")) (Results several (moved leaves.Parameters d s)) (b.0, moved leaves.Parameters d b.1)
 
-results_of : (s : State) (p : Expr × State) (b : List Expr × State) → ToldExpression leaves.Parameters s p → ToldList leaves.Parameters (p.0 ∷ [], p.1) b → ToldResults s b
+pub results_of : (s : State) (p : Expr × State) (b : List Expr × State) → ToldExpression leaves.Parameters s p → ToldList leaves.Parameters (p.0 ∷ [], p.1) b → ToldResults s b
 unfolding listed
 results_of s p b t r = record {
   first = p.0;
@@ -94,7 +94,7 @@ map_is dims syms d b =
     let e : ◌≡◌ {A = Map} (record { dims = length (params 100 0 dims); syms = length (params 115 0 syms); results = b.0 }) (record { dims = dims; syms = syms; results = b.0 }) = cc (length_params 100 0 dims, length_params 115 0 syms) in
     ap (λ (m : Map). let o : Map × ℕ = (m, b.1.total + d) in o) e
 
-map_of : (names : Scope) (total : ℕ) (b : List Expr × State) → FewNames names → ToldResults (over names total) b → ToldMap (map_with names b).0 total (map_with names b).1
+pub map_of : (names : Scope) (total : ℕ) (b : List Expr × State) → FewNames names → ToldResults (over names total) b → ToldMap (map_with names b).0 total (map_with names b).1
 unfolding opening_text results_text parameters_text
 map_of names total b few t = record { small = λ h. t.grown.kept h; again = again }
   where
@@ -140,7 +140,7 @@ pub record ToldSetRows (s : State) (b : List Constraint × State) : Type 0 where
   pub again : (d : ℕ) → Room leaves.Parameters d b.1 → RowsNest b.0
       → Prints false (codes "(" ++ (listed row_text b.0 ++ codes ")")) (Rows (moved leaves.Parameters d s)) (b.0, moved leaves.Parameters d b.1)
 
-rows_of : (s : State) (m b : List Constraint × State) → ToldRow ([], s) m → ToldRows m b → ToldSetRows s b
+pub rows_of : (s : State) (m b : List Constraint × State) → ToldRow ([], s) m → ToldRows m b → ToldSetRows s b
 unfolding listed
 rows_of s m b t r = record {
   grown = grown_then s m.1 b.1 t.grown r.grown;
@@ -185,7 +185,7 @@ set_is dims syms d b =
     let e : ◌≡◌ {A = Set} (record { dims = length (params 100 0 dims); syms = length (params 115 0 syms); rows = b.0 }) (record { dims = dims; syms = syms; rows = b.0 }) = cc (length_params 100 0 dims, length_params 115 0 syms) in
     ap (λ (m : Set). let o : Set × ℕ = (m, b.1.total + d) in o) e
 
-set_of : (names : Scope) (total : ℕ) (b : List Constraint × State) → FewNames names → ToldSetRows (over names total) b → ToldSet (set_with names b).0 total (set_with names b).1
+pub set_of : (names : Scope) (total : ℕ) (b : List Constraint × State) → FewNames names → ToldSetRows (over names total) b → ToldSet (set_with names b).0 total (set_with names b).1
 unfolding opening_text rows_text parameters_text
 set_of names total b few t = record { small = λ h. t.grown.kept h; again = again }
   where

@@ -55,7 +55,7 @@ aliases_told b c f g t (more _ d _ _ left right p i m) =
 -- ---- arguments
 
 -- the range of an index, and what an argument is
-abbrev KindTold : ArgKind → Type 0
+abbrev pub KindTold : ArgKind → Type 0
 KindTold (kind.Memref ty) = TypeTold ty
 KindTold (kind.Index None) = Unit {0}
 KindTold (kind.Index (Some r)) = InRange r.least × InRange r.greatest
@@ -99,7 +99,7 @@ argument_told b c f g h =
       told = record { name = value_given h.first.token h.value.1 (given_one h.left h.first.token h.first.alone (given_left f h.left h.right h.parts g)) (lined_some value h.first.token h.value h.first.accepted); kind = kind_told i.value i.left i.first };
     }
 
-abbrev AllTold : List Arg → Type 0
+abbrev pub AllTold : List Arg → Type 0
 AllTold [] = Unit {0}
 AllTold (a ∷ args) = ArgTold a × AllTold args
 
@@ -277,7 +277,7 @@ writes_ended {o = o} {m = m} {a = a} {b = b} {y = y} p j q = record {
       (x.0, (x.1.0, record { value = x.0; left = i.left; right = i.right; parts = i.parts; first = x.1.1; second = giving_text (λ _. x.0) i.right y (q.spelled i.right i.second) }));
 }
 
-abbrev returning : ℕ → Stmt
+abbrev pub returning : ℕ → Stmt
 returning line = record { line = line; what = what.Return }
 
 abbrev Returned : Lang Tok (List Stmt)
@@ -401,7 +401,7 @@ module_opening = record { pieces = open_brace.pieces; cut = λ rest qs c h. open
 module_closing : Prints false (codes "\n}\n") (One (sign 125)) tt
 module_closing = record { pieces = close_brace.pieces; cut = λ rest qs c h. cut_blank (after_word []) 10 (125 ∷ 10 ∷ rest) (close_brace.pieces ++ qs) refl (close_brace.cut (10 ∷ rest) qs tt (cut_blank (after_word []) 10 rest qs refl h)); spelled = close_brace.spelled }
 
-module_again : (m : Module) → ToldFunction m → ModuleNests m → Writes false (spelling m) File (Same m)
+pub module_again : (m : Module) → ToldFunction m → ModuleNests m → Writes false (spelling m) File (AreSameButLines m)
 unfolding spelling head_text args_text
 module_again m t n =
     let lines_told : LinesPrints (Region [] 39) four t.stmts 0 t.after = t.told.again four (refl, (refl, (refl, (refl, tt)))) (omega arith) (append_nests t.stmts (returning t.line ∷ []) (subst (λ ss. StatementsNest (nest ss)) t.body n)).0 in

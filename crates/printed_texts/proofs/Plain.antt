@@ -89,7 +89,7 @@ unfolding definition_of
 alloc_word = word_piece (codes "memref.alloc") definition_word definition.Alloc refl (λ line column. refl)
 
 module _ (r : Name) (total : ℕ) where
-  value_definition : (p : Pick) (at : Access) (behind : ℕ) → ToldUse at total behind → ToldDefinition r (what.Value r p at) total behind
+  pub value_definition : (p : Pick) (at : Access) (behind : ℕ) → ToldUse at total behind → ToldDefinition r (what.Value r p at) total behind
   unfolding value_text defined_text
   value_definition p at behind t = record {
     text = value_word p ++ use_text at;
@@ -100,7 +100,7 @@ module _ (r : Name) (total : ℕ) where
         seq (pick_again p) tt (loosen (giving (λ (q : Access × ℕ). let x : What × ℕ = (what.Value r p q.0, q.1) in x) (t.again true (inl refl) (t.small h) m.0)));
   }
 
-  load_definition : (m : Name) (at : Access) (behind : ℕ) (ty : MemrefType) → IsWritten m → ToldSubscripts at total behind → TypeTold ty → ToldDefinition r (what.Load r m at ty) total behind
+  pub load_definition : (m : Name) (at : Access) (behind : ℕ) (ty : MemrefType) → IsWritten m → ToldSubscripts at total behind → TypeTold ty → ToldDefinition r (what.Load r m at ty) total behind
   unfolding load_text defined_text place_text subscripts_text
   load_definition m at behind ty w t y = record {
     text = codes "affine.load " ++ (name_text m ++ (subscripts_text at ++ typed_text ty));
@@ -111,7 +111,7 @@ module _ (r : Name) (total : ℕ) where
         seq load_word tt (seq (value_prints m w) (λ r c. refl) (seq (t.again (t.small h) k.0) tt (typed_again (λ ty. let x : What × ℕ = (what.Load r m at ty, behind) in x) ty y)));
   }
 
-  raw_load_definition : (m : Name) (vs : List Name) (ty : MemrefType) → IsWritten m → AllWritten vs → TypeTold ty → ToldDefinition r (what.RawLoad r m vs ty) total total
+  pub raw_load_definition : (m : Name) (vs : List Name) (ty : MemrefType) → IsWritten m → AllWritten vs → TypeTold ty → ToldDefinition r (what.RawLoad r m vs ty) total total
   unfolding raw_load_text defined_text raw_place_text
   raw_load_definition m vs ty w a y = record {
     text = codes "memref.load " ++ (name_text m ++ ((codes "[" ++ (names_text vs ++ codes "]")) ++ typed_text ty));
@@ -120,7 +120,7 @@ module _ (r : Name) (total : ℕ) where
     again = λ h line n. seq raw_load_word tt (seq (value_prints m w) (λ r c. refl) (seq (brackets_again vs a) tt (typed_again (λ ty. let x : What × ℕ = (what.RawLoad r m vs ty, total) in x) ty y)));
   }
 
-  constant_definition : (z : ℤ) (ty : Scalar) → InRange z → ToldDefinition r (what.Constant r z ty) total total
+  pub constant_definition : (z : ℤ) (ty : Scalar) → InRange z → ToldDefinition r (what.Constant r z ty) total total
   unfolding constant_text defined_text scalar_typed_text
   constant_definition z ty i = record {
     text = codes "arith.constant " ++ (signed_decimal z ++ (codes " : " ++ scalar_text ty));
@@ -129,7 +129,7 @@ module _ (r : Name) (total : ℕ) where
     again = λ h line n. seq constant_word tt (seq (signed_again z i) (λ r c. refl) (seq colon tt (giving (λ ty. let x : What × ℕ = (what.Constant r z ty, total) in x) (scalar_again ty))));
   }
 
-  binary_definition : (o : Op) (a b : Name) (ty : Scalar) → IsWritten a → IsWritten b → ToldDefinition r (what.Binary r o a b ty) total total
+  pub binary_definition : (o : Op) (a b : Name) (ty : Scalar) → IsWritten a → IsWritten b → ToldDefinition r (what.Binary r o a b ty) total total
   unfolding binary_text defined_text scalar_typed_text pair_text
   binary_definition o a b ty v w = record {
     text = operation_word o ++ (name_text a ++ (codes ", " ++ (name_text b ++ (codes " : " ++ scalar_text ty))));
@@ -138,7 +138,7 @@ module _ (r : Name) (total : ℕ) where
     again = λ h line n. seq (op_again o) tt (seq (value_prints a v) (λ r c. refl) (seq comma tt (seq (value_prints b w) (λ r c. refl) (seq colon tt (giving (λ ty. let x : What × ℕ = (what.Binary r o a b ty, total) in x) (scalar_again ty))))));
   }
 
-  cast_definition : (c : CastKind) (v : Name) (from to : Scalar) → IsWritten v → ToldDefinition r (what.Cast r c v from to) total total
+  pub cast_definition : (c : CastKind) (v : Name) (from to : Scalar) → IsWritten v → ToldDefinition r (what.Cast r c v from to) total total
   unfolding cast_text defined_text cast_types_text scalar_typed_text
   cast_definition c v from to w = record {
     text = cast_word c ++ (name_text v ++ (codes " : " ++ (scalar_text from ++ (codes " to " ++ scalar_text to))));
@@ -147,7 +147,7 @@ module _ (r : Name) (total : ℕ) where
     again = λ h line n. seq (cast_again c) tt (seq (value_prints v w) (λ r c. refl) (seq colon tt (seq (scalar_again from) (λ r c. refl) (seq (blank_before (blank_behind (keyword (codes "to") refl refl))) tt (giving (λ to. let x : What × ℕ = (what.Cast r c v from to, total) in x) (scalar_again to))))));
   }
 
-  alloc_definition : (ty : MemrefType) → TypeTold ty → ToldDefinition r (what.Alloc r ty) total total
+  pub alloc_definition : (ty : MemrefType) → TypeTold ty → ToldDefinition r (what.Alloc r ty) total total
   unfolding alloc_text defined_text
   alloc_definition ty y = record {
     text = codes "memref.alloc" ++ (codes "(" ++ (codes ")" ++ typed_text ty));
@@ -237,9 +237,9 @@ unfolding action_of
 if_word = blank_behind (word_piece (codes "affine.if") action_word action.If refl (λ line column. refl))
 
 -- a memref with its subscripts
-record ToldPart (m : Name) (at : Access) (total behind : ℕ) : Type 0 where
-  name : IsWritten m
-  subscripts : ToldSubscripts at total behind
+pub record ToldPart (m : Name) (at : Access) (total behind : ℕ) : Type 0 where
+  pub name : IsWritten m
+  pub subscripts : ToldSubscripts at total behind
 
 part_told : (total : ℕ) (p : Name × (Access × ℕ)) (f : List Tok) → Given f → Part total f p → ToldPart p.0 p.1.0 total p.1.1
 part_told total p f g h =
@@ -254,7 +254,7 @@ unfolding subscripts_text
 part_again m at total behind t h n = seq (value_prints m t.name) (λ r c. refl) (giving (λ (p : Access × ℕ). let x : Name × (Access × ℕ) = (m, p) in x) (t.subscripts.again (t.subscripts.small h) n))
 
 -- the stride and the chunk
-abbrev StrideWritten : Option (Name × Name) → Type 0
+abbrev pub StrideWritten : Option (Name × Name) → Type 0
 StrideWritten None = Unit {0}
 StrideWritten (Some p) = IsWritten p.0 × IsWritten p.1
 
@@ -284,7 +284,7 @@ start_pieces : (w k o a aa b bb c cd n s t u v : List ℕ)
 start_pieces w k o a aa b bb c cd n s t u v = simp (append_assoc, append-nil) refl
 
 module _ (R : Regions) (total : ℕ) where
-  store_action : (x m : Name) (at : Access) (behind : ℕ) (ty : MemrefType) → IsWritten x → IsWritten m → ToldSubscripts at total behind → TypeTold ty → ToldAction R (what.Store x m at ty) total behind
+  pub store_action : (x m : Name) (at : Access) (behind : ℕ) (ty : MemrefType) → IsWritten x → IsWritten m → ToldSubscripts at total behind → TypeTold ty → ToldAction R (what.Store x m at ty) total behind
   unfolding store_text named_text place_text subscripts_text
   store_action x m at behind ty v w t y = record {
     text = codes "affine.store " ++ (name_text x ++ (codes ", " ++ (name_text m ++ (subscripts_text at ++ typed_text ty))));
@@ -295,7 +295,7 @@ module _ (R : Regions) (total : ℕ) where
         seq store_word tt (seq (value_prints x v) (λ r c. refl) (seq comma tt (seq (value_prints m w) (λ r c. refl) (seq (t.again (t.small h) k.0) tt (typed_again (λ ty. let p : What × ℕ = (what.Store x m at ty, behind) in p) ty y)))));
   }
 
-  raw_store_action : (x m : Name) (vs : List Name) (ty : MemrefType) → IsWritten x → IsWritten m → AllWritten vs → TypeTold ty → ToldAction R (what.RawStore x m vs ty) total total
+  pub raw_store_action : (x m : Name) (vs : List Name) (ty : MemrefType) → IsWritten x → IsWritten m → AllWritten vs → TypeTold ty → ToldAction R (what.RawStore x m vs ty) total total
   unfolding raw_store_text named_text raw_place_text
   raw_store_action x m vs ty v w a y = record {
     text = codes "memref.store " ++ (name_text x ++ (codes ", " ++ (name_text m ++ ((codes "[" ++ (names_text vs ++ codes "]")) ++ typed_text ty))));
@@ -304,7 +304,7 @@ module _ (R : Regions) (total : ℕ) where
     again = λ h line n. seq raw_store_word tt (seq (value_prints x v) (λ r c. refl) (seq comma tt (seq (value_prints m w) (λ r c. refl) (seq (brackets_again vs a) tt (typed_again (λ ty. let p : What × ℕ = (what.RawStore x m vs ty, total) in p) ty y)))));
   }
 
-  dealloc_action : (m : Name) (ty : MemrefType) → IsWritten m → TypeTold ty → ToldAction R (what.Dealloc m ty) total total
+  pub dealloc_action : (m : Name) (ty : MemrefType) → IsWritten m → TypeTold ty → ToldAction R (what.Dealloc m ty) total total
   unfolding dealloc_text named_text typed_text
   dealloc_action m ty w y = record {
     text = codes "memref.dealloc " ++ (name_text m ++ typed_text ty);
@@ -313,7 +313,7 @@ module _ (R : Regions) (total : ℕ) where
     again = λ h line n. seq dealloc_word tt (seq (value_prints m w) (λ r c. refl) (typed_again (λ ty. let p : What × ℕ = (what.Dealloc m ty, total) in p) ty y));
   }
 
-  wait_action : (m : Name) (at : Access) (behind : ℕ) (n : Name) (ty : MemrefType) → ToldPart m at total behind → IsWritten n → TypeTold ty → ToldAction R (what.Wait m at n ty) total behind
+  pub wait_action : (m : Name) (at : Access) (behind : ℕ) (n : Name) (ty : MemrefType) → ToldPart m at total behind → IsWritten n → TypeTold ty → ToldAction R (what.Wait m at n ty) total behind
   unfolding wait_text first_place_text named_text typed_text
   wait_action m at behind n ty t w y = record {
     text = codes "affine.dma_wait " ++ ((name_text m ++ subscripts_text at) ++ (codes ", " ++ (name_text n ++ typed_text ty)));
@@ -324,7 +324,7 @@ module _ (R : Regions) (total : ℕ) where
         seq wait_word tt (seq (part_again m at total behind t h k.0) tt (seq comma tt (seq (value_prints n w) (λ r c. refl) (typed_again (λ ty. let p : What × ℕ = (what.Wait m at n ty, behind) in p) ty y))));
   }
 
-  start_action : (a : Name) (aa : Access) (b : Name) (bb : Access) (c : Name) (cc' : Access) (n : Name) (s : Option (Name × Name)) (t u v : MemrefType) (n1 n2 n3 : ℕ)
+  pub start_action : (a : Name) (aa : Access) (b : Name) (bb : Access) (c : Name) (cc' : Access) (n : Name) (s : Option (Name × Name)) (t u v : MemrefType) (n1 n2 n3 : ℕ)
       → ToldPart a aa total n1 → ToldPart b bb n1 n2 → ToldPart c cc' n2 n3 → IsWritten n → StrideWritten s → TypeTold t → TypeTold u → TypeTold v → ToldAction R (what.Start a aa b bb c cc' n s (t ∷ u ∷ v ∷ [])) total n3
   unfolding ends_text first_place_text named_text pair_text place_text amount_text listed
   start_action a aa b bb c cc' n s t u v n1 n2 n3 pa pb pc wn ws wt wu wv = record {

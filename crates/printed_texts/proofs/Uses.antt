@@ -202,7 +202,7 @@ zero_plus n = omega arith
 plus_comm : (a b : ℕ) → a + b ≡ b + a
 plus_comm a b = omega arith
 
-plain_map : (m : Map) (total behind : ℕ) → ToldMap m total behind → UsedMap m total behind
+pub plain_map : (m : Map) (total behind : ℕ) → ToldMap m total behind → UsedMap m total behind
 plain_map m total behind t = record {
   small = t.small;
   again = λ several c h n. subst (λ k. Prints true (map_text m) (Map0 several k) (m, behind)) (plus_zero total)
@@ -235,7 +235,7 @@ some_map_told aliases several total p f t g (inl h) =
     let w = of_alias_some (λ w. map_meant h.token.counted several total (alias_in w aliases)) p (class h.token) h.accepted in
     map_meant_told several total w.0 aliases (alias_in w.0 aliases) p t refl (subst (λ b. map_meant b several total (alias_in w.0 aliases) ≡ Some p) i.counted w.1.1)
 
-plain_set : (m : Set) (total behind : ℕ) → ToldSet m total behind → UsedSet m total behind
+pub plain_set : (m : Set) (total behind : ℕ) → ToldSet m total behind → UsedSet m total behind
 plain_set m total behind t = record {
   small = t.small;
   again = λ h n. subst (λ k. Prints true (set_head_text m) (Set0 k) (m, behind)) (plus_zero total)
@@ -270,7 +270,7 @@ pub record ToldUse (at : Access) (total behind : ℕ) : Type 0 where
   pub small : total ≤ 1048576 → behind ≤ 1048576
   pub again : (several : Bool) → FitsSeveral several at.map → behind ≤ 1048576 → UseNests at → Prints false (use_text at) (Use [] several total) (at, behind)
 
-use_of : (total : ℕ) (p : Map × ℕ) (vs : List Name) → UsedMap p.0 total p.1 → ToldOperands p.0.dims p.0.syms vs → ToldUse (record { map = p.0; operands = vs }) total p.1
+pub use_of : (total : ℕ) (p : Map × ℕ) (vs : List Name) → UsedMap p.0 total p.1 → ToldOperands p.0.dims p.0.syms vs → ToldUse (record { map = p.0; operands = vs }) total p.1
 unfolding use_text operands_text
 use_of total p vs m o = record {
   small = m.small;
@@ -305,11 +305,11 @@ pub record ToldSubscripts (at : Access) (total behind : ℕ) : Type 0 where
 same_state : (s : State) → ◌≡◌ {A = State} (moved leaves.Values 0 s) s
 same_state s = ap (λ n. let t : State = record { operands = s.operands; total = n; dims = s.dims; syms = s.syms } in t) (plus_zero s.total)
 
-no_subscripts : (total : ℕ) → ToldSubscripts (access_with ([], no_values total)).0 total total
+pub no_subscripts : (total : ℕ) → ToldSubscripts (access_with ([], no_values total)).0 total total
 unfolding subscripts_text listed
 no_subscripts total = record { small = λ h. h; again = λ h n. seq open_square tt (giving access_with (in_left (giving (λ _. ([], no_values total)) close_square))) }
 
-subscripts_of : (total : ℕ) (p : Expr × State) (b : List Expr × State) → ToldExpression leaves.Values (no_values total) p → ToldList leaves.Values (p.0 ∷ [], p.1) b → ToldSubscripts (access_with b).0 total (access_with b).1
+pub subscripts_of : (total : ℕ) (p : Expr × State) (b : List Expr × State) → ToldExpression leaves.Values (no_values total) p → ToldList leaves.Values (p.0 ∷ [], p.1) b → ToldSubscripts (access_with b).0 total (access_with b).1
 unfolding subscripts_text listed
 subscripts_of total p b t r = record { small = λ h. r.grown.kept (t.grown.kept h); again = again }
   where

@@ -16,7 +16,7 @@ use Rattle.printed_texts.specs.Lines.{AreSameButLines}
 use Rattle.printed_texts.proofs.Pieces.{tok, Are}
 use Rattle.printed_texts.proofs.Given.{HasNameForm, AllGiven, Given}
 use Rattle.printed_texts.proofs.Blocks.{Writes}
-use Rattle.printed_texts.proofs.Modules.{file_again}
+use Rattle.printed_texts.proofs.Modules.{ToldFunction, module_again, file_again}
 
 -- ---- the tokens of a given text
 
@@ -109,6 +109,10 @@ printed_spells m w =
   where
     nothing_left : AreCut (after_word []) [] []
     nothing_left = cut_nothing (after_word [])
+
+-- Where the parts of a module are told, its printed spelling spells one that is the same but for its lines.
+pub told_spells : (m : Module) → ToldFunction m → ModuleNests m → (n : Module) × (AreSameButLines m n × Spells (spelling m) n)
+told_spells m t n = printed_spells m (module_again m t n)
 
 -- Where a text spells a module, its printed spelling spells one that is the same but for its lines.
 pub spelled_again : (source : List ℕ) (m : Module) → length source < 2 ^ 64 → Spells source m → ModuleNests m → (n : Module) × (AreSameButLines m n × Spells (spelling m) n)
