@@ -11,10 +11,12 @@ ghost use Rattle.std.specs.Prelude.{◌≡◌, ◌<◌, ◌^◌, ℕ, List, leng
 /// own: another module, the same but for lines, whose printed text is the same.
 ///
 /// `ModuleNests` asks that each expression is printed with at most 128 parentheses and negations inside
-/// one another, or has no negated 0. A text that spells a negated 0 as `--0` nests one level less than
-/// its printed text, `-(0)`: 129 signs and a `0` are an expression of a text, and what is printed for
-/// it, 128 signs and `(0)`, is none. Every other expression is printed with no more levels than it had.
-/// A text of 2^64 bytes or more may have parameters that `decimal` has no digits for.
+/// one another, or negates no 0. A text that spells a negated 0 as `--0` nests one level less than its
+/// printed text, `-(0)`: 129 signs and a `0` are an expression of a text, and what is printed for it, 128
+/// signs and `(0)`, is none. Each expression of a text that negates no 0 is printed within the limit.
+///
+/// The length of the text is bounded since std's `decimal` writes 64 digits at most: past the bound a map
+/// could have more parameters than it numbers.
 pub fn printed_texts_spell()
     ensures again { (source : List ℕ) (m : Module) → length source < 2 ^ 64 → Spells source m → ModuleNests m → (n : Module) × (AreSameButLines m n × Spells (spelling m) n) }
     ensures stable { (m n : Module) → AreSameButLines m n → spelling m ≡ spelling n }
