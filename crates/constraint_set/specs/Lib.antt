@@ -4,3 +4,4 @@ pub mod Table
 pub mod Elimination
 pub mod Lists
 pub mod Reach
+pub mod Projection

@@ -1,5 +1,5 @@
 -- How far a form reaches over the scaled points of a system, and whether a system has any.
-use Rattle.std.specs.Prelude.{suc, ◌+◌, Bool, false, if◌then◌else◌, ◌||◌, nat_lt, List, [], ◌∷◌, ◌++◌, map, Result, Ok, Err, ℤ, pos, neg_ℤ, ◌*ℤ◌, ◌≤ℤ◌, int_lt}
+use Rattle.std.specs.Prelude.{◌≡◌, suc, ◌+◌, Bool, false, if◌then◌else◌, ◌||◌, nat_lt, List, [], ◌∷◌, ◌++◌, map, Result, Ok, Err, ℤ, pos, neg_ℤ, ◌*ℤ◌, ◌≤ℤ◌, int_lt}
 use Rattle.std.specs.List.{reduce}
 use Rattle.std.specs.Int.{int_div_euclid, int_max, int_min}
 use Rattle.num_row.specs.Ints.{narrowed}
@@ -117,3 +117,14 @@ reach_of s form = if nat_lt variable_limit (s.vars + 1) then Err too_many else (
     least ← greatest_lower rows
     greatest ← least_upper rows
     Ok (between least greatest)))
+
+-- ---- what the answer says
+-- where there is no scaled point the answer is never, and else it is the least and the greatest integer
+abbrev pub TellsReach : LinearSystem → LinearRow → Reach → Type 0
+TellsReach s form never = HasNoPoint s
+TellsReach s form (between least greatest) = IsLeast s form least × IsGreatest s form greatest
+
+-- where the form is bounded and there are scaled points, v has a lower and an upper bound
+abbrev pub HasBounds : LinearSystem → LinearRow → Type 0
+HasBounds s form = (both rows last : List LinearRow) → valued s form ≡ Ok both → steps (map suc (countdown s.vars)) (tidied both) ≡ Ok rows → step 0 rows ≡ Ok last
+  → has_negative last ≡ false → ¬ (raising 0 rows ≡ []) × ¬ (lowering 0 rows ≡ [])
