@@ -4,9 +4,10 @@ use Rattle.std.specs.Prelude.{slice_index_or, slice_set, int_lt}
 use Rattle.std.proofs.lemmas.Int.{ints}
 use Rattle.std.proofs.Math.ListN.{set}
 use Rattle.num_row.proofs.Ring.{Poly, Var, ◌⊕◌, ◌⊗◌, Neg, value, ring, mul_nonneg}
+use Rattle.std.proofs.lemmas.Bool.Decides.{Decides-int_eq}
 use Rattle.constraint_set.specs.Lists.{Each}
 use Rattle.constraint_set.specs.Points.{LinearRow, dot, value_at, HoldsAtPoint, IsPoint, coef, AreWide}
-use Rattle.constraint_set.specs.Elimination.{is_raising, is_lowering, raising, lowering, without}
+use Rattle.constraint_set.specs.Elimination.{is_raising, is_lowering, is_flat, raising, lowering, without}
 use Rattle.constraint_set.proofs.Dots.{mixed, mixed_row, paired, pairs, plain_step, value-mixed, dot-set}
 
 -- ---- lists
@@ -64,25 +65,33 @@ module _ (k : ℕ) (P : LinearRow → Type 0) where
   part_lowering [] h = tt
   part_lowering (r ∷ rs) h = down_by r (lowering k rs) h.0 (part_lowering rs h.1) (is_lowering k r) refl
 
-  flat_by : (r : LinearRow) (rest : List LinearRow) → P r → Each (λ r. (coef k r ≡ pos 0) × P r) rest → (b c : Bool) → is_raising k r ≡ b → is_lowering k r ≡ c → Each (λ r. (coef k r ≡ pos 0) × P r) (cond b rest (cond c rest (r ∷ rest)))
-  flat_by r rest h hs true c e f = hs
-  flat_by r rest h hs false true e f = hs
-  flat_by r rest h hs false false e f = ((omega (arith, ints, e, f), h), hs)
+  flat_by : (r : LinearRow) (rest : List LinearRow) → P r → Each (λ r. (coef k r ≡ pos 0) × P r) rest → (b : Bool) → is_flat k r ≡ b → Each (λ r. (coef k r ≡ pos 0) × P r) (cond b (r ∷ rest) rest)
+  flat_by r rest h hs true e = (((Decides-int_eq (coef k r) (pos 0)).0 e, h), hs)
+  flat_by r rest h hs false e = hs
 
   pub part_without : (rs : List LinearRow) → Each P rs → Each (λ r. (coef k r ≡ pos 0) × P r) (without k rs)
   part_without [] h = tt
-  part_without (r ∷ rs) h = flat_by r (without k rs) h.0 (part_without rs h.1) (is_raising k r) (is_lowering k r) refl refl
+  part_without (r ∷ rs) h = flat_by r (without k rs) h.0 (part_without rs h.1) (is_flat k r) refl
 
-  whole_by : (r : LinearRow) (us ds fs rs : List LinearRow) → (Each P us → Each P ds → Each P fs → Each P rs) → (x y : Bool) → Each P (cond x (r ∷ us) us) → Each P (cond y (r ∷ ds) ds) → Each P (cond x fs (cond y fs (r ∷ fs))) → P r × Each P rs
-  whole_by r us ds fs rs g true true a b c = (a.0, g a.1 b.1 c)
-  whole_by r us ds fs rs g true false a b c = (a.0, g a.1 b c)
-  whole_by r us ds fs rs g false true a b c = (b.0, g a b.1 c)
-  whole_by r us ds fs rs g false false a b c = (c.0, g a b c.1)
+  third : (r : LinearRow) (b c : Bool) → is_raising k r ≡ b → is_lowering k r ≡ c → b ≡ false → c ≡ false → is_flat k r ≡ true
+  third r b c e f g h = (Decides-int_eq (coef k r) (pos 0)).1 (let up : is_raising k r ≡ false = e ∙ g in let down : is_lowering k r ≡ false = f ∙ h in omega (arith, ints, up, down))
+
+  whole_by : (r : LinearRow) (us ds fs rs : List LinearRow) → (Each P us → Each P ds → Each P fs → Each P rs) → (x y z : Bool) → (x ≡ false → y ≡ false → z ≡ true)
+      → Each P (cond x (r ∷ us) us) → Each P (cond y (r ∷ ds) ds) → Each P (cond z (r ∷ fs) fs) → P r × Each P rs
+  whole_by r us ds fs rs g true true true t a b c = (a.0, g a.1 b.1 c.1)
+  whole_by r us ds fs rs g true true false t a b c = (a.0, g a.1 b.1 c)
+  whole_by r us ds fs rs g true false true t a b c = (a.0, g a.1 b c.1)
+  whole_by r us ds fs rs g true false false t a b c = (a.0, g a.1 b c)
+  whole_by r us ds fs rs g false true true t a b c = (b.0, g a b.1 c.1)
+  whole_by r us ds fs rs g false true false t a b c = (b.0, g a b.1 c)
+  whole_by r us ds fs rs g false false true t a b c = (c.0, g a b c.1)
+  whole_by r us ds fs rs g false false false t a b c = absurd (let e = t refl refl in let x : ⊥ = cc in x)
 
   -- the three parts are the whole
   pub whole : (rs : List LinearRow) → Each P (raising k rs) → Each P (lowering k rs) → Each P (without k rs) → Each P rs
   whole [] a b c = tt
-  whole (r ∷ rs) a b c = whole_by r (raising k rs) (lowering k rs) (without k rs) rs (whole rs) (is_raising k r) (is_lowering k r) a b c
+  whole (r ∷ rs) a b c =
+      whole_by r (raising k rs) (lowering k rs) (without k rs) rs (whole rs) (is_raising k r) (is_lowering k r) (is_flat k r) (third r (is_raising k r) (is_lowering k r) refl refl) a b c
 
 -- ---- the projection
 pub get-mixed : (a : ℤ) (xs : List ℤ) (b : ℤ) (ys : List ℤ) (k : ℕ) → length xs ≡ length ys → get_or (mixed a xs b ys) k (pos 0) ≡ a *ℤ get_or xs k (pos 0) +ℤ b *ℤ get_or ys k (pos 0)

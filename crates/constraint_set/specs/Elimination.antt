@@ -1,5 +1,6 @@
 -- Plain elimination after Fourier and Motzkin: variables leave a list of rows one at a time, within stated limits.
-use Rattle.std.specs.Prelude.{ℕ, zero, suc, ◌+◌, ◌*◌, ◌/◌, Bool, if◌then◌else◌, nat_lt, List, [], ◌∷◌, ◌++◌, length, Option, Some, None, Result, Ok, Err, ℤ, pos, int_lt, unsigned_abs}
+use Rattle.std.specs.Prelude.{ℕ, zero, suc, ◌+◌, ◌*◌, ◌/◌, Bool, if◌then◌else◌, nat_lt, List, [], ◌∷◌, ◌++◌, length, filter, Option, Some, None, Result, Ok, Err, ℤ, pos, int_lt, unsigned_abs}
+use Rattle.std.specs.Ordering.{int_eq}
 use Rattle.num_row.specs.Ints.{narrowed, combined}
 use Rattle.num_row.specs.Divisors.{gcd_of}
 use Rattle.constraint_set.specs.Points.{LinearRow, LinearSystem, coef}
@@ -28,17 +29,17 @@ is_raising k r = int_lt (pos 0) (coef k r)
 abbrev pub is_lowering : ℕ → LinearRow → Bool
 is_lowering k r = int_lt (coef k r) (pos 0)
 
+abbrev pub is_flat : ℕ → LinearRow → Bool
+is_flat k r = int_eq (coef k r) (pos 0)
+
 abbrev pub raising : ℕ → List LinearRow → List LinearRow
-raising k [] = []
-raising k (r ∷ rs) = if is_raising k r then r ∷ raising k rs else raising k rs
+raising k rows = filter (is_raising k) rows
 
 abbrev pub lowering : ℕ → List LinearRow → List LinearRow
-lowering k [] = []
-lowering k (r ∷ rs) = if is_lowering k r then r ∷ lowering k rs else lowering k rs
+lowering k rows = filter (is_lowering k) rows
 
 abbrev pub without : ℕ → List LinearRow → List LinearRow
-without k [] = []
-without k (r ∷ rs) = if is_raising k r then without k rs else (if is_lowering k r then without k rs else r ∷ without k rs)
+without k rows = filter (is_flat k) rows
 
 -- ---- the pair of a row p in which k has a positive coefficient and a row n in which it has a negative one
 -- `a * xs + b * ys`; too wide where a product or a sum doesn't fit
