@@ -11,7 +11,7 @@ use Rattle.num_row.proofs.Ring.{Poly, Var, ◌⊕◌, ◌⊗◌, Neg, value, rin
 use Rattle.num_row.proofs.Order.{mul_cancel_right, mul_le_right}
 use Rattle.constraint_set.specs.Lists.{Each}
 use Rattle.constraint_set.specs.Points.{LinearRow, dot, value_at, HoldsAtPoint, IsPoint, AreWide}
-use Rattle.constraint_set.specs.Tidy.{all_zero, is_idle, divisor, divided, reduced, same_coefs, added, merged, tidied}
+use Rattle.constraint_set.specs.Tidy.{all_zero, is_idle, divisor, divisor_from, divided, reduced, same_coefs, added, merged, tidied}
 use Rattle.std.proofs.lemmas.Nat.Gcd.{dvd_refl, dvd_trans}
 use Rattle.std.proofs.lemmas.Bool.{and_from, and_parts}
 use Rattle.std.proofs.lemmas.Bool.Decides.{Decides-int_eq}
@@ -104,9 +104,6 @@ idle_holds r p q scale h =
         by false f e = omega (arith, ints, f)
 
 -- ---- the divisor of a row
-abbrev pub divisor_from : ℕ → List ℤ → ℕ
-divisor_from g xs = fold (λ g x. gcd_of g (unsigned_abs x)) g xs
-
 divides_all : (g : ℕ) (xs : List ℤ) → (divisor_from g xs ∣ g) × Each (λ x. divisor_from g xs ∣ unsigned_abs x) xs
 divides_all g [] = (dvd_refl g, tt)
 divides_all g (x ∷ xs) =

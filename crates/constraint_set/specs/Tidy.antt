@@ -15,9 +15,13 @@ all_zero (x ∷ xs) = int_eq x (pos 0) && all_zero xs
 abbrev pub is_idle : LinearRow → Bool
 is_idle r = all_zero r.coefs && not (int_lt r.constant (pos 0))
 
+-- the greatest common divisor of a number and the sizes of a list
+abbrev pub divisor_from : ℕ → List ℤ → ℕ
+divisor_from first xs = fold (λ g x. gcd_of g (unsigned_abs x)) first xs
+
 -- the greatest common divisor of a row's coefficients and its constant
 abbrev pub divisor : LinearRow → ℕ
-divisor r = fold (λ g x. gcd_of g (unsigned_abs x)) (unsigned_abs r.constant) r.coefs
+divisor r = divisor_from (unsigned_abs r.constant) r.coefs
 
 abbrev pub divided : ℕ → LinearRow → LinearRow
 divided g r = record { coefs = map (λ x. int_div x (pos g)) r.coefs; constant = int_div r.constant (pos g) }
