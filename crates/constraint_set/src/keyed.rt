@@ -55,6 +55,14 @@ impl Rows {
         Ok(())
     }
 
+    /// How many variables there are.
+    pub fn vars(&self) -> u32
+        ensures vars { result ≡ self.now.vars }
+        ensures wide { AreWide self.now.vars self.now.rows }
+    {
+        self.vars
+    }
+
     /// How many rows there are.
     pub fn count(&self) -> usize
         ensures count { result ≡ length self.now.rows }

@@ -1,3 +1,4 @@
 pub mod Mixes
 pub mod Chains
 pub mod Loops
+pub mod Stepping

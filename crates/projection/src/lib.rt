@@ -8,9 +8,12 @@
 //! keyed by their coefficients. The crate stands on `constraint_set` and `num_row`.
 #![tactic(auto)]
 
+mod eliminating;
 mod fault;
 mod pair;
 mod side;
+mod steps;
 mod tidy;
 
+pub use eliminating::eliminate;
 pub use fault::ReachFault;
