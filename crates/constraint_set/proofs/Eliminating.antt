@@ -51,6 +51,9 @@ module _ (n : ℕ) (tidy : List LinearRow → List LinearRow)
         as_wide = wide (flat ++ m.pairs) (Each-append (λ r. length r.coefs ≡ n) flat m.pairs (drop_first k (λ r. length r.coefs ≡ n) flat (part_without k (λ r. length r.coefs ≡ n) rows w)) m.made.wide)
       })
 
+  pub step_wide : (k : ℕ) (rows out : List LinearRow) → AreWide n rows → step_by tidy k rows ≡ Ok out → AreWide n out
+  step_wide k rows out w h = (step_keeps k rows out w h).as_wide
+
   pub steps_wide : (ks : List ℕ) (rows out : List LinearRow) → AreWide n rows → steps_by tidy ks rows ≡ Ok out → AreWide n out
   steps_wide [] rows out w h = subst (AreWide n) (let e : rows ≡ out = cc in e) w
   steps_wide (k ∷ ks) rows out w h =

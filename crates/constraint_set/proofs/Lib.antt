@@ -6,6 +6,7 @@ pub mod Lifting
 pub mod Tidying
 pub mod Pairs
 pub mod Eliminating
+pub mod Gone
 pub mod Emptiness
 pub mod Tightest
 pub mod Extremes

@@ -48,7 +48,7 @@ lower_factor k p n = pos (unsigned_abs (coef k n) / shared k p n)
 abbrev pub upper_factor : ℕ → LinearRow → LinearRow → ℤ
 upper_factor k p n = pos (unsigned_abs (coef k p) / shared k p n)
 
-pair_is : (k : ℕ) (p n row : LinearRow) → pair_of k p n ≡ Ok row → row ≡ mixed_row (lower_factor k p n) p (upper_factor k p n) n
+pub pair_is : (k : ℕ) (p n row : LinearRow) → pair_of k p n ≡ Ok row → row ≡ mixed_row (lower_factor k p n) p (upper_factor k p n) n
 unfolding pair_of
 pair_is k p n row h =
     let one = ok_of (factor (coef k n) (shared k p n)) (λ a. factor (coef k p) (shared k p n) >>= (λ b. mixed_by a p.coefs b n.coefs >>= (λ coefs. or_wide (combined a p.constant b n.constant) >>= (λ constant. Ok (let r : LinearRow = record { coefs = coefs; constant = constant } in r))))) row h in
@@ -201,6 +201,7 @@ module _ (m : ℕ) (tidy : List LinearRow → List LinearRow) where
   pub record StepMade (k : ℕ) (rows out : List LinearRow) : Type 0 where
     pub pairs : List LinearRow
     pub tidied : out ≡ tidy (without k rows ++ pairs)
+    pub run : pairs_of k (raising k rows) (lowering k rows) ≡ Ok pairs
     pub made : Made k m pairs (all_pairs k (raising k rows) (lowering k rows))
 
   pub step_made : (k : ℕ) (rows out : List LinearRow) → AreWide m rows → step_by tidy k rows ≡ Ok out → StepMade k rows out
@@ -211,4 +212,4 @@ module _ (m : ℕ) (tidy : List LinearRow → List LinearRow) where
       by false h =
           let w = ok_of (pairs_of k (raising k rows) (lowering k rows)) (λ ps. Ok (tidy (without k rows ++ ps))) out h in
           let e : tidy (without k rows ++ w.0) ≡ out = cc in
-          record { pairs = w.0; tidied = sym e; made = all_made k m (raising k rows) (lowering k rows) w.0 (part_raising k (λ r. length r.coefs ≡ m) rows wide) (part_lowering k (λ r. length r.coefs ≡ m) rows wide) w.1.0 }
+          record { pairs = w.0; tidied = sym e; run = w.1.0; made = all_made k m (raising k rows) (lowering k rows) w.0 (part_raising k (λ r. length r.coefs ≡ m) rows wide) (part_lowering k (λ r. length r.coefs ≡ m) rows wide) w.1.0 }

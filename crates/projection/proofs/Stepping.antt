@@ -7,6 +7,7 @@ use Rattle.constraint_set.specs.Tidy.{tidied}
 use Rattle.constraint_set.specs.Elimination.{Refusal, too_many, ◌>>=◌, raising, lowering, without, pairs_of, row_limit, row_count, step, step_by, steps, steps_by, eliminated, variable_limit}
 use Rattle.constraint_set.proofs.Steps.{Each-append, Each-weaken, Each-both, Raises, Lowers, part_raising, part_lowering, part_without}
 use Rattle.constraint_set.proofs.Pairs.{all_made}
+use Rattle.constraint_set.proofs.Eliminating.{over}
 use Rattle.projection.specs.Answers.{IsRefused, after}
 use Rattle.projection.specs.declared.fault.ReachFault.{ReachFault}
 use Rattle.projection.proofs.Chains.{stops, carry}
@@ -115,3 +116,7 @@ eliminated_runs s ks rows h e = ap (λ b. cond b (Err too_many) (steps ks (tidie
     not_over : (b : Bool) → nat_lt 64 s.vars ≡ b → nat_lt 64 s.vars ≡ false
     not_over true f = absurd (let l = ltb-true 64 s.vars f in let x : ⊥ = omega (arith, l, h) in x)
     not_over false f = f
+
+-- the rows of a table over n variables, as a system
+pub as_system : (t : LinearSystem) (n : ℕ) → t.vars ≡ n → over n t.rows ≡ t
+as_system t n e = ap (λ m. over m t.rows) (sym e)
