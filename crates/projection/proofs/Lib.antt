@@ -2,3 +2,4 @@ pub mod Mixes
 pub mod Chains
 pub mod Loops
 pub mod Stepping
+pub mod Counting

@@ -11,9 +11,11 @@
 mod eliminating;
 mod fault;
 mod pair;
+mod reaching;
 mod side;
 mod steps;
 mod tidy;
 
 pub use eliminating::eliminate;
+pub use reaching::{Reached, is_empty};
 pub use fault::ReachFault;
