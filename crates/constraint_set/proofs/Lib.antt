@@ -12,3 +12,4 @@ pub mod Tightest
 pub mod Extremes
 pub mod Valued
 pub mod Reaching
+pub mod Bounding

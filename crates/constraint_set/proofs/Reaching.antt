@@ -229,7 +229,7 @@ module _ (s : LinearSystem) (form : LinearRow) (wide : AreWide s.vars s.rows) (l
             a.same (suc i) ((λ e. let x : ⊥ = omega arith in x), tt) ∙ get-scaled t (zeros (suc s.vars)) (suc i) (omega arith)
             ∙ ap (λ z. t *ℤ z) (get-zeros (suc s.vars) (suc i)) ∙ ring (Var t ⊗ Var (pos 0)) (Var (pos 0)) (omega arith) ∙ sym (get-zeros s.vars i)
 
-    some_law : has_negative last ≡ false → HasPoint s
+    pub some_law : has_negative last ≡ false → HasPoint s
     some_law h =
         let r = lifts_all (suc s.vars) tidied tidied_same (tidied_wide (suc s.vars)) (0 ∷ []) rows last within (rows_wide s form wide long both rows made run) one_step
             (zeros (suc s.vars)) (pos 1) (length-zeros (suc s.vars)) (zeros_point last (suc s.vars) h) in
