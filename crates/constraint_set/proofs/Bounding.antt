@@ -1,15 +1,14 @@
 -- Where a form is bounded, its variable has a lower and an upper bound.
-use Rattle.std.proofs.Common.{◌≡◌, ℕ, suc, Bool, false, List, [], ◌∷◌, map, Result, Ok, ℤ, pos, neg_ℤ, ◌+ℤ◌, ◌*ℤ◌, ◌≤ℤ◌, ◌<ℤ◌, refl, sym, ◌∙◌, ap, arith, subst, length}
+use Rattle.std.proofs.Common.{◌≡◌, suc, List, [], map, Ok, ℤ, pos, neg_ℤ, ◌+ℤ◌, ◌*ℤ◌, ◌≤ℤ◌, ◌<ℤ◌, sym, arith, subst, length}
 use Rattle.std.proofs.lemmas.Int.{ints}
-use Rattle.num_row.proofs.Ring.{Poly, Var, ◌⊕◌, ◌⊗◌, Neg, value, ring, mul_nonneg}
+use Rattle.num_row.proofs.Ring.{Var, ◌⊕◌, ◌⊗◌, Neg, ring, mul_nonneg}
 use Rattle.constraint_set.specs.Lists.{Each}
-use Rattle.constraint_set.specs.Points.{LinearRow, LinearSystem, value_at, IsPoint, PointOf, AreWide, coef}
+use Rattle.constraint_set.specs.Points.{LinearRow, LinearSystem, value_at, AreWide, coef}
 use Rattle.constraint_set.specs.Tidy.{tidied}
-use Rattle.constraint_set.specs.Elimination.{raising, lowering, without, step, steps, countdown}
-use Rattle.constraint_set.specs.Reach.{IsBounded, HasBounds, has_negative, valued, HasPoint}
+use Rattle.constraint_set.specs.Elimination.{raising, lowering, without, steps, countdown}
+use Rattle.constraint_set.specs.Reach.{IsBounded, HasBounds, valued, HasPoint}
 use Rattle.constraint_set.proofs.Steps.{Each-weaken, Raises, Lowers, part_raising, part_lowering, part_without, whole}
-use Rattle.constraint_set.proofs.Emptiness.{zeros}
-use Rattle.constraint_set.proofs.Valued.{line, to_line, from_line, Source, point_down, point_up}
+use Rattle.constraint_set.proofs.Valued.{line, to_line, from_line, point_down, point_up}
 use Rattle.constraint_set.proofs.Reaching.{some_law}
 
 -- a row that doesn't raise v holds at a lesser v too
@@ -38,8 +37,7 @@ too_high t k q w ht h e =
     let x : ⊥ = omega (arith, ints, f, e, h, ht) in x
 
 module _ (s : LinearSystem) (form : LinearRow) (wide : AreWide s.vars s.rows) (long : length form.coefs ≡ s.vars)
-  (both rows : List LinearRow) (made : valued s form ≡ Ok both) (run : steps (map suc (countdown s.vars)) (tidied both) ≡ Ok rows) (bounded : IsBounded s form) (has : HasPoint s) where
-
+    (both rows : List LinearRow) (made : valued s form ≡ Ok both) (run : steps (map suc (countdown s.vars)) (tidied both) ≡ Ok rows) (bounded : IsBounded s form) (has : HasPoint s) where
   there : Each (line (value_at form has.0 has.1.0) has.1.0) rows
   there = to_line rows s.vars (value_at form has.0 has.1.0) has.1.0 (point_down s form wide long both rows made run has.0 has.1.0 has.1.1)
 
@@ -69,5 +67,5 @@ module _ (s : LinearSystem) (form : LinearRow) (wide : AreWide s.vars s.rows) (l
 
 pub bounds_there : (s : LinearSystem) (form : LinearRow) → AreWide s.vars s.rows → length form.coefs ≡ s.vars → IsBounded s form → HasBounds s form
 bounds_there s form wide long bounded = λ both rows last made run end e.
-  (let has = some_law s form wide long both rows made run last end e in
-  (some_raise s form wide long both rows made run bounded has, some_lower s form wide long both rows made run bounded has))
+    (let has = some_law s form wide long both rows made run last end e in
+    (some_raise s form wide long both rows made run bounded has, some_lower s form wide long both rows made run bounded has))

@@ -1,8 +1,8 @@
 -- Rows mixed without a test of ranges, and the laws of dot products.
-use Rattle.std.proofs.Common.{◌≡◌, ℕ, zero, suc, ◌+◌, ◌<◌, ◌≤◌, List, [], ◌∷◌, ◌++◌, map, length, ℤ, pos, negsuc, neg_ℤ, ◌+ℤ◌, ◌*ℤ◌, ◌≤ℤ◌, ◌<ℤ◌, get_or, refl, sym, ◌∙◌, ap, arith}
+use Rattle.std.proofs.Common.{◌≡◌, ℕ, zero, suc, ◌<◌, List, [], ◌∷◌, ◌++◌, map, length, ℤ, pos, neg_ℤ, ◌+ℤ◌, ◌*ℤ◌, get_or, ◌∙◌, ap, arith}
 use Rattle.std.proofs.lemmas.Int.{ints}
 use Rattle.std.proofs.Math.ListN.{set}
-use Rattle.num_row.proofs.Ring.{Poly, Var, ◌⊕◌, ◌⊗◌, Neg, value, ring, combine_step}
+use Rattle.num_row.proofs.Ring.{Var, ◌⊕◌, ◌⊗◌, ring, combine_step}
 use Rattle.constraint_set.specs.Points.{LinearRow, dot, value_at, coef}
 use Rattle.constraint_set.specs.Projection.{scaled}
 use Rattle.constraint_set.specs.Elimination.{raising, lowering, without}
@@ -59,7 +59,7 @@ pub dot-set : (xs : List ℤ) (p : List ℤ) (k : ℕ) (v : ℤ) → k < length 
 dot-set [] p k v h = ring (Var (pos 0) ⊕ Var (pos 0) ⊗ Var (get_or p k (pos 0))) (Var (pos 0) ⊕ Var (pos 0) ⊗ Var v) (omega arith)
 dot-set (x ∷ xs) [] k v h = absurd (omega arith)
 dot-set (x ∷ xs) (p ∷ ps) zero v h = ring (Var x ⊗ Var v ⊕ Var (dot xs ps) ⊕ Var x ⊗ Var p) (Var x ⊗ Var p ⊕ Var (dot xs ps) ⊕ Var x ⊗ Var v) (omega arith)
-dot-set (x ∷ xs) (p ∷ ps) (suc k) v h = 
+dot-set (x ∷ xs) (p ∷ ps) (suc k) v h =
     let e = dot-set xs ps k v (omega arith) in
     omega (arith, ints, e)
 

@@ -1,17 +1,17 @@
 -- Once all variables are eliminated, a negative constant tells whether there is a scaled point.
-use Rattle.std.proofs.Common.{◌≡◌, ℕ, zero, suc, ◌+◌, ◌<◌, ◌≤◌, Bool, true, false, ◌||◌, MatchBool, List, [], ◌∷◌, map, length, Result, Ok, Err, ℤ, pos, neg_ℤ, ◌+ℤ◌, ◌*ℤ◌, ◌≤ℤ◌, ◌<ℤ◌, int_lt, get_or, ltb-true, refl, sym, ◌∙◌, ap, arith, subst, nat_lt, replicate}
+use Rattle.std.proofs.Common.{◌≡◌, ℕ, zero, suc, ◌<◌, ◌≤◌, Bool, true, false, ◌||◌, MatchBool, List, [], ◌∷◌, length, Ok, ℤ, pos, neg_ℤ, ◌*ℤ◌, ◌≤ℤ◌, ◌<ℤ◌, int_lt, get_or, ltb-true, refl, sym, ◌∙◌, ap, arith, nat_lt}
 use Rattle.std.proofs.lemmas.Int.{ints}
 use Rattle.std.proofs.lemmas.List.{get_or_past}
 use Rattle.std.proofs.lemmas.Bool.{ltb-false}
-use Rattle.num_row.proofs.Ring.{Poly, Var, ◌⊕◌, ◌⊗◌, Neg, value, ring, mul_nonneg, mul_pos}
+use Rattle.num_row.proofs.Ring.{Var, ◌⊗◌, Neg, ring, mul_pos}
 use Rattle.constraint_set.specs.Lists.{Each}
-use Rattle.constraint_set.specs.Points.{LinearRow, LinearSystem, dot, value_at, HoldsAtPoint, IsPoint, PointOf, AreWide}
-use Rattle.constraint_set.specs.Projection.{scaled, AgreesOutside, LiftsTo}
+use Rattle.constraint_set.specs.Points.{LinearRow, LinearSystem, dot, HoldsAtPoint, IsPoint, AreWide}
+use Rattle.constraint_set.specs.Projection.{AgreesOutside}
 use Rattle.constraint_set.specs.Tidy.{tidied}
-use Rattle.constraint_set.specs.Elimination.{Refusal, ◌>>=◌, steps, eliminated, countdown}
+use Rattle.constraint_set.specs.Elimination.{steps, eliminated, countdown}
 use Rattle.constraint_set.specs.Reach.{HasNoPoint, HasPoint, has_negative, emptiness}
 use Rattle.constraint_set.proofs.Pairs.{ok_of}
-use Rattle.constraint_set.proofs.Eliminating.{over, points_project, points_lift, eliminated_steps}
+use Rattle.constraint_set.proofs.Eliminating.{points_project, points_lift, eliminated_steps}
 
 -- ---- the point of zeros
 abbrev pub zeros : ℕ → List ℤ
@@ -84,9 +84,9 @@ in_countdown (suc n) i h out = in_countdown n i (let ne = out.0 in omega (arith,
 -- outside all places anything agrees
 everywhere : (n : ℕ) (p x : List ℤ) → length p ≡ n → length x ≡ n → AgreesOutside (countdown n) p x
 everywhere n p x e f = record {
-    as_long = f ∙ sym e;
-    same = λ i out. (let past : n ≤ i = beyond i out in get_or_past x i (pos 0) (omega arith) ∙ sym (get_or_past p i (pos 0) (omega arith)))
-  }
+  as_long = f ∙ sym e;
+  same = λ i out. (let past : n ≤ i = beyond i out in get_or_past x i (pos 0) (omega arith) ∙ sym (get_or_past p i (pos 0) (omega arith)));
+}
   where
     beyond : (i : ℕ) → Each (λ k. ¬ (i ≡ k)) (countdown n) → n ≤ i
     beyond i out = by (nat_lt i n) refl
@@ -108,8 +108,8 @@ emptiness_tells s b wide h =
   where
     tells : (out : List LinearRow) → steps (countdown s.vars) (tidied s.rows) ≡ Ok out → Each (λ k. k < s.vars) (countdown s.vars) → (b : Bool) → has_negative out ≡ b → MatchBool b (HasNoPoint s) (HasPoint s)
     tells out run within true e = λ p q point.
-      no_zeros_point out s.vars q e
-      (points_project s.vars (countdown s.vars) s.rows out within wide run p (zeros s.vars) q point (everywhere s.vars p (zeros s.vars) point.as_long (length-zeros s.vars))).point
+        no_zeros_point out s.vars q e
+        (points_project s.vars (countdown s.vars) s.rows out within wide run p (zeros s.vars) q point (everywhere s.vars p (zeros s.vars) point.as_long (length-zeros s.vars))).point
     tells out run within false e =
         let up = points_lift s.vars (countdown s.vars) s.rows out within wide run (zeros s.vars) (pos 1) (record { as_long = length-zeros s.vars; point = zeros_point out s.vars e }) in
         (up.raised, (up.t *ℤ pos 1, up.point))

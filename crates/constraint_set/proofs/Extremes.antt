@@ -1,5 +1,5 @@
 -- The greatest and the least number of a list of bounds.
-use Rattle.std.proofs.Common.{◌≡◌, Bool, true, false, cond, List, [], ◌∷◌, map, Option, Some, None, Result, Ok, Err, ℤ, pos, ◌≤ℤ◌, int_lt, fold, refl, sym, ◌∙◌, ap, arith, subst}
+use Rattle.std.proofs.Common.{◌≡◌, List, [], ◌∷◌, map, Some, Ok, ℤ, ◌≤ℤ◌, fold, refl, sym, ◌∙◌, ap, arith, subst}
 use Rattle.std.proofs.lemmas.Int.{ints}
 use Rattle.std.specs.Int.{int_max, int_min}
 use Rattle.std.specs.List.{reduce}
@@ -7,7 +7,7 @@ use Rattle.num_row.specs.Ints.{narrowed}
 use Rattle.num_row.proofs.Narrow.{narrowed_some}
 use Rattle.constraint_set.specs.Lists.{Each}
 use Rattle.constraint_set.specs.Points.{LinearRow}
-use Rattle.constraint_set.specs.Elimination.{Refusal, ◌>>=◌, or_wide}
+use Rattle.constraint_set.specs.Elimination.{◌>>=◌, or_wide}
 use Rattle.constraint_set.specs.Reach.{bounds_by}
 use Rattle.constraint_set.proofs.Pairs.{ok_of, some_of_wide}
 

@@ -1,14 +1,14 @@
 -- An eliminated variable has the coefficient 0 in each row, and keeps it in later steps.
-use Rattle.std.proofs.Common.{◌≡◌, ℕ, zero, suc, ◌<◌, ◌/◌, Bool, true, false, cond, List, [], ◌∷◌, ◌++◌, map, length, Result, Ok, Err, ℤ, pos, ◌+ℤ◌, ◌*ℤ◌, get_or, int_div, filter, refl, sym, ◌∙◌, ap, arith, subst}
+use Rattle.std.proofs.Common.{◌≡◌, ℕ, zero, suc, ◌/◌, List, [], ◌∷◌, ◌++◌, map, length, Ok, ℤ, pos, ◌+ℤ◌, ◌*ℤ◌, get_or, int_div, refl, sym, ◌∙◌, ap, arith, subst}
 use Rattle.std.proofs.Math.ListN.{get_or-map}
-use Rattle.num_row.proofs.Ring.{Poly, Var, ◌⊕◌, ◌⊗◌, value, ring}
+use Rattle.num_row.proofs.Ring.{Var, ◌⊕◌, ◌⊗◌, ring}
 use Rattle.constraint_set.specs.Lists.{Each}
 use Rattle.constraint_set.specs.Points.{LinearRow, coef, AreWide}
 use Rattle.constraint_set.specs.Tidy.{tidied}
-use Rattle.constraint_set.specs.Elimination.{Refusal, ◌>>=◌, raising, lowering, without, pair_of, pairs_with, pairs_of, step_by, steps_by, steps}
+use Rattle.constraint_set.specs.Elimination.{◌>>=◌, raising, lowering, without, pair_of, pairs_with, pairs_of, step_by, steps_by, steps}
 use Rattle.constraint_set.proofs.Steps.{Each-append, Each-weaken, part_raising, part_lowering, part_without, Raises, Lowers, get-mixed}
 use Rattle.constraint_set.proofs.Tidying.{tidied_each, tidied_wide, tidied_same}
-use Rattle.constraint_set.proofs.Pairs.{ok_of, pair_is, lower_factor, upper_factor, Up, Down, Made, StepMade, step_made}
+use Rattle.constraint_set.proofs.Pairs.{ok_of, pair_is, lower_factor, upper_factor, step_made}
 use Rattle.constraint_set.proofs.Eliminating.{step_wide}
 
 -- variable j is in no row
@@ -24,6 +24,7 @@ tidied_lacks j rows h = tidied_each (λ xs. get_or xs j (pos 0) ≡ pos 0) (λ g
       where
         div_zero : (n : ℕ) → 0 / n ≡ 0
         div_zero n = omega arith
+
     zero_quotient : (g : ℕ) (xs : List ℤ) → get_or (map (λ x. int_div x (pos g)) xs) j (pos 0) ≡ int_div (get_or xs j (pos 0)) (pos g)
     zero_quotient g xs = ap (λ d. get_or (map (λ x. int_div x (pos g)) xs) j d) (sym (nothing g)) ∙ get_or-map (λ x. int_div x (pos g)) xs j (pos 0)
 

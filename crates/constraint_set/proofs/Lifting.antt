@@ -1,8 +1,8 @@
 -- Each scaled point of a step of elimination lifts to one of the rows: the new value is that of the tightest row.
-use Rattle.std.proofs.Common.{◌≡◌, ℕ, zero, suc, ◌+◌, ◌<◌, ◌≤◌, Bool, true, false, cond, List, [], ◌∷◌, ◌++◌, map, length, ℤ, pos, negsuc, neg_ℤ, ◌+ℤ◌, ◌*ℤ◌, ◌≤ℤ◌, ◌<ℤ◌, get_or, refl, sym, ◌∙◌, ap, arith, ◌⊎◌, ⊎_elim, inl, inr}
+use Rattle.std.proofs.Common.{◌≡◌, ℕ, zero, suc, ◌<◌, List, [], ◌∷◌, map, length, ℤ, pos, neg_ℤ, ◌+ℤ◌, ◌*ℤ◌, ◌≤ℤ◌, ◌<ℤ◌, get_or, refl, sym, ◌∙◌, ap, arith, ⊎_elim}
 use Rattle.std.proofs.lemmas.Int.{ints}
 use Rattle.std.proofs.Math.ListN.{set}
-use Rattle.num_row.proofs.Ring.{Poly, Var, ◌⊕◌, ◌⊗◌, Neg, value, ring, mul_nonneg, mul_pos}
+use Rattle.num_row.proofs.Ring.{Var, ◌⊕◌, ◌⊗◌, Neg, ring, mul_nonneg, mul_pos}
 use Rattle.num_row.proofs.Order.{le_or_lt, fraction_trans}
 use Rattle.constraint_set.specs.Lists.{Each}
 use Rattle.constraint_set.specs.Points.{LinearRow, dot, value_at, HoldsAtPoint, IsPoint, coef, AreWide}
@@ -29,9 +29,9 @@ module _ {A : Type 0} (f c : A → ℤ) (Q : A → Type 0) (positive : (a : A) �
   tightest a [] qa qs = (a, (qa, (tight_refl a, tt)))
   tightest a (s ∷ rs) qa qs = ⊎_elim
       (λ h. let w = tightest a rs qa qs.1 in
-          (w.0, (w.1.0, (w.1.1.0, (tight_trans w.0 a s w.1.0 qa qs.0 w.1.1.0 h, w.1.1.1)))))
+      (w.0, (w.1.0, (w.1.1.0, (tight_trans w.0 a s w.1.0 qa qs.0 w.1.1.0 h, w.1.1.1)))))
       (λ h. let w = tightest s rs qs.0 qs.1 in
-          (w.0, (w.1.0, (tight_trans w.0 s a w.1.0 qs.0 qa w.1.1.0 (omega (arith, ints, h)), (w.1.1.0, w.1.1.1)))))
+      (w.0, (w.1.0, (tight_trans w.0 s a w.1.0 qs.0 qa w.1.1.0 (omega (arith, ints, h)), (w.1.1.0, w.1.1.1)))))
       (le_or_lt (f a *ℤ c s) (f s *ℤ c a))
 
 pub get-scaled : (t : ℤ) (p : List ℤ) (k : ℕ) → k < length p → get_or (scaled t p) k (pos 0) ≡ t *ℤ get_or p k (pos 0)
@@ -57,7 +57,7 @@ module _ (k : ℕ) (p : List ℤ) (q : ℤ) (in_range : k < length p) where
       let d = dot-scaled r.coefs t p in
       let x = get_or p k (pos 0) in
       let w : t *ℤ ((dot r.coefs p +ℤ r.constant *ℤ q) +ℤ neg_ℤ (coef k r *ℤ x)) ≡ t *ℤ dot r.coefs p +ℤ r.constant *ℤ (t *ℤ q) +ℤ neg_ℤ (coef k r *ℤ (t *ℤ x))
-          = ring (Var t ⊗ (Var (dot r.coefs p) ⊕ Var r.constant ⊗ Var q ⊕ Neg (Var (coef k r) ⊗ Var x))) (Var t ⊗ Var (dot r.coefs p) ⊕ Var r.constant ⊗ (Var t ⊗ Var q) ⊕ Neg (Var (coef k r) ⊗ (Var t ⊗ Var x))) (omega arith) in
+      = ring (Var t ⊗ (Var (dot r.coefs p) ⊕ Var r.constant ⊗ Var q ⊕ Neg (Var (coef k r) ⊗ Var x))) (Var t ⊗ Var (dot r.coefs p) ⊕ Var r.constant ⊗ (Var t ⊗ Var q) ⊕ Neg (Var (coef k r) ⊗ (Var t ⊗ Var x))) (omega arith) in
       linear (dot r.coefs (set (scaled t p) k v)) (coef k r *ℤ get_or (scaled t p) k (pos 0)) (dot r.coefs (scaled t p)) (coef k r *ℤ v) (r.constant *ℤ (t *ℤ q)) (t *ℤ dot r.coefs p) (coef k r *ℤ (t *ℤ x)) _ e g d w
     where
       linear : (a b c d e f g h : ℤ) → a +ℤ b ≡ c +ℤ d → b ≡ g → c ≡ f → h ≡ f +ℤ e +ℤ neg_ℤ g → a +ℤ e ≡ d +ℤ h
@@ -92,9 +92,10 @@ module _ (k n : ℕ) (p : List ℤ) (q : ℤ) (in_range : k < length p) (scale :
   paired_all : (rs ss : List LinearRow) → Each (λ r. Raises k r × Wide r) rs → Each (HoldsAtPoint p q) (pairs k rs ss) → Each (Paired ss) rs
   unfolding Paired Wide
   paired_all [] ss h g = tt
-  paired_all (r ∷ rs) ss h g =
-      ( (h.0.0, (h.0.1, Each-unmap (HoldsAtPoint p q) (paired k r) ss (Each-first (HoldsAtPoint p q) (map (paired k r) ss) (pairs k rs ss) g)))
-      , paired_all rs ss h.1 (Each-second (HoldsAtPoint p q) (map (paired k r) ss) (pairs k rs ss) g))
+  paired_all (r ∷ rs) ss h g = (
+    (h.0.0, (h.0.1, Each-unmap (HoldsAtPoint p q) (paired k r) ss (Each-first (HoldsAtPoint p q) (map (paired k r) ss) (pairs k rs ss) g))),
+    paired_all rs ss h.1 (Each-second (HoldsAtPoint p q) (map (paired k r) ss) (pairs k rs ss) g),
+  )
 
   free_lifts : (t v : ℤ) → pos 0 <ℤ t → (r : LinearRow) → (coef k r ≡ pos 0) × HoldsAtPoint p q r → Lifted t v r
   unfolding Lifted rest
@@ -117,7 +118,7 @@ module _ (k n : ℕ) (p : List ℤ) (q : ℤ) (in_range : k < length p) (scale :
       let f = rest k p q in_range b in
       let g = rest k p q in_range r in
       let w : coef k r *ℤ neg_ℤ f +ℤ coef k b *ℤ g ≡ g *ℤ coef k b +ℤ neg_ℤ (f *ℤ coef k r)
-          = ring (Var (coef k r) ⊗ Neg (Var f) ⊕ Var (coef k b) ⊗ Var g) (Var g ⊗ Var (coef k b) ⊕ Neg (Var f ⊗ Var (coef k r))) (omega arith) in
+      = ring (Var (coef k r) ⊗ Neg (Var f) ⊕ Var (coef k b) ⊗ Var g) (Var g ⊗ Var (coef k b) ⊕ Neg (Var f ⊗ Var (coef k r))) (omega arith) in
       at_least _ _ _ _ e w tight
     where
       at_least : (a b c d : ℤ) → a ≡ b → b ≡ c +ℤ neg_ℤ d → d ≤ℤ c → pos 0 ≤ℤ a
@@ -131,7 +132,7 @@ module _ (k n : ℕ) (p : List ℤ) (q : ℤ) (in_range : k < length p) (scale :
       let f = rest k p q in_range b in
       let h = rest k p q in_range s in
       let w : coef k s *ℤ neg_ℤ f +ℤ coef k b *ℤ h ≡ coef k b *ℤ h +ℤ neg_ℤ (coef k s *ℤ f)
-          = ring (Var (coef k s) ⊗ Neg (Var f) ⊕ Var (coef k b) ⊗ Var h) (Var (coef k b) ⊗ Var h ⊕ Neg (Var (coef k s) ⊗ Var f)) (omega arith) in
+      = ring (Var (coef k s) ⊗ Neg (Var f) ⊕ Var (coef k b) ⊗ Var h) (Var (coef k b) ⊗ Var h ⊕ Neg (Var (coef k s) ⊗ Var f)) (omega arith) in
       same_sign _ _ _ _ e w g hb.1.1.0
     where
       same_sign : (a b c d : ℤ) → a ≡ b → b ≡ c → d ≡ c → pos 0 ≤ℤ d → pos 0 ≤ℤ a
@@ -145,7 +146,7 @@ module _ (k n : ℕ) (p : List ℤ) (q : ℤ) (in_range : k < length p) (scale :
       let f = rest k p q in_range b in
       let g = rest k p q in_range s in
       let w : coef k s *ℤ f +ℤ neg_ℤ (coef k b) *ℤ g ≡ g *ℤ neg_ℤ (coef k b) +ℤ neg_ℤ (f *ℤ neg_ℤ (coef k s))
-          = ring (Var (coef k s) ⊗ Var f ⊕ Neg (Var (coef k b)) ⊗ Var g) (Var g ⊗ Neg (Var (coef k b)) ⊕ Neg (Var f ⊗ Neg (Var (coef k s)))) (omega arith) in
+      = ring (Var (coef k s) ⊗ Var f ⊕ Neg (Var (coef k b)) ⊗ Var g) (Var g ⊗ Neg (Var (coef k b)) ⊕ Neg (Var f ⊗ Neg (Var (coef k s)))) (omega arith) in
       at_least _ _ _ _ e w tight
     where
       at_least : (a b c d : ℤ) → a ≡ b → b ≡ c +ℤ neg_ℤ d → d ≤ℤ c → pos 0 ≤ℤ a
@@ -162,23 +163,41 @@ module _ (k n : ℕ) (p : List ℤ) (q : ℤ) (in_range : k < length p) (scale :
   by_parts [] [] hu hd hp = (pos 1, (pos 0, (omega (arith, ints), (tt, tt))))
   by_parts [] (d ∷ ds) hu hd hp =
       let w = tightest (rest k p q in_range) (λ s. neg_ℤ (coef k s)) (λ s. Lowers k s × Wide s) (λ s h. omega (arith, ints, h.0)) d ds hd.0 hd.1 in
-      let b = w.0 in
-      ( neg_ℤ (coef k b)
-      , ( rest k p q in_range b
-        , ( omega (arith, ints, w.1.0.0)
-          , ( tt
-            , ( sinking_lifts b d w.1.1.0
-              , Each-weaken (Tight (rest k p q in_range) (λ s. neg_ℤ (coef k s)) (λ s. Lowers k s × Wide s) (λ s h. omega (arith, ints, h.0)) b) (Lifted (neg_ℤ (coef k b)) (rest k p q in_range b)) (λ s h. sinking_lifts b s h) ds w.1.1.1)))))
+      let b = w.0 in (
+        neg_ℤ (coef k b),
+        (
+          rest k p q in_range b,
+          (
+            omega (arith, ints, w.1.0.0),
+            (
+              tt,
+              (
+                sinking_lifts b d w.1.1.0,
+                Each-weaken (Tight (rest k p q in_range) (λ s. neg_ℤ (coef k s)) (λ s. Lowers k s × Wide s) (λ s h. omega (arith, ints, h.0)) b) (Lifted (neg_ℤ (coef k b)) (rest k p q in_range b)) (λ s h. sinking_lifts b s h) ds w.1.1.1,
+              ),
+            ),
+          ),
+        ),
+      )
   by_parts (u ∷ us) ds hu hd hp =
       let known = paired_all (u ∷ us) ds hu hp in
       let w = tightest (rest k p q in_range) (coef k) (Paired ds) (λ r h. h.0) u us known.0 known.1 in
-      let b = w.0 in
-      ( coef k b
-      , ( neg_ℤ (rest k p q in_range b)
-        , ( w.1.0.0
-          , ( ( raising_lifts b u w.1.0.0 w.1.1.0
-              , Each-weaken (Tight (rest k p q in_range) (coef k) (Paired ds) (λ r h. h.0) b) (Lifted (coef k b) (neg_ℤ (rest k p q in_range b))) (λ r h. raising_lifts b r w.1.0.0 h) us w.1.1.1)
-            , Each-both (λ s. HoldsAtPoint p q (paired k b s)) (λ s. Lowers k s × Wide s) (Lifted (coef k b) (neg_ℤ (rest k p q in_range b))) (λ s h g. lowering_lifts b s (w.1.0.0, (w.1.0.1.0, (h, tt))) g.1) ds w.1.0.1.1 hd))))
+      let b = w.0 in (
+        coef k b,
+        (
+          neg_ℤ (rest k p q in_range b),
+          (
+            w.1.0.0,
+            (
+              (
+                raising_lifts b u w.1.0.0 w.1.1.0,
+                Each-weaken (Tight (rest k p q in_range) (coef k) (Paired ds) (λ r h. h.0) b) (Lifted (coef k b) (neg_ℤ (rest k p q in_range b))) (λ r h. raising_lifts b r w.1.0.0 h) us w.1.1.1,
+              ),
+              Each-both (λ s. HoldsAtPoint p q (paired k b s)) (λ s. Lowers k s × Wide s) (Lifted (coef k b) (neg_ℤ (rest k p q in_range b))) (λ s h g. lowering_lifts b s (w.1.0.0, (w.1.0.1.0, (h, tt))) g.1) ds w.1.0.1.1 hd,
+            ),
+          ),
+        ),
+      )
 
   pub lifts : AreWide n rows → IsPoint (plain_step k rows) p q → StepLift k rows p q
   unfolding Wide

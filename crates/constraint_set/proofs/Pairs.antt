@@ -1,19 +1,18 @@
 -- The pairs of a step with their factors made small, where all numbers fit: they hold where the plain pairs do.
-use Rattle.std.proofs.Common.{◌≡◌, ℕ, zero, suc, ◌+◌, ◌*◌, ◌/◌, ◌%◌, ◌<◌, ◌≤◌, Bool, true, false, cond, List, [], ◌∷◌, ◌++◌, map, length, get_or, Option, Some, None, Result, Ok, Err, ℤ, pos, negsuc, neg_ℤ, ◌+ℤ◌, ◌*ℤ◌, ◌≤ℤ◌, ◌<ℤ◌, unsigned_abs, refl, sym, ◌∙◌, ap, arith, subst, ◌↔◌, nat_lt}
+use Rattle.std.proofs.Common.{◌≡◌, ℕ, zero, suc, ◌/◌, ◌%◌, ◌<◌, Bool, true, false, cond, List, [], ◌∷◌, ◌++◌, map, length, Option, Some, None, Result, Ok, Err, ℤ, pos, negsuc, neg_ℤ, ◌+ℤ◌, ◌*ℤ◌, ◌≤ℤ◌, ◌<ℤ◌, unsigned_abs, refl, sym, ◌∙◌, ap, arith, subst, ◌↔◌, nat_lt}
 use Rattle.std.proofs.lemmas.Int.{ints}
 use Rattle.std.specs.Int.{◌∣◌}
 use Rattle.std.proofs.lemmas.Nat.Gcd.{mod-eq-zero_of_dvd}
 use Rattle.num_row.specs.Ints.{narrowed, combined}
-use Rattle.num_row.specs.Divisors.{gcd_of}
 use Rattle.num_row.proofs.Gcds.{gcd_of_is}
 use Rattle.num_row.proofs.Narrow.{narrowed_some, combined_exact}
-use Rattle.num_row.proofs.Ring.{Poly, Var, ◌⊕◌, ◌⊗◌, Neg, value, ring, mul_nonneg}
+use Rattle.num_row.proofs.Ring.{Var, ◌⊕◌, ◌⊗◌, Neg, ring, mul_nonneg}
 use Rattle.num_row.proofs.Order.{mul_cancel_right}
 use Rattle.constraint_set.specs.Lists.{Each}
-use Rattle.constraint_set.specs.Points.{LinearRow, value_at, HoldsAtPoint, IsPoint, coef, AreWide}
+use Rattle.constraint_set.specs.Points.{LinearRow, value_at, HoldsAtPoint, coef, AreWide}
 use Rattle.constraint_set.specs.Elimination.{Refusal, too_many, ◌>>=◌, or_wide, raising, lowering, without, mixed_by, shared, factor, pair_of, pairs_with, pairs_of, row_limit, row_count, step_by}
-use Rattle.constraint_set.proofs.Dots.{mixed, mixed_row, paired, pairs, pairs as all_pairs, plain_step, value-mixed}
-use Rattle.constraint_set.proofs.Steps.{Each-append, Each-first, Each-second, Raises, Lowers, part_raising, part_lowering, part_without, length-mixed, get-mixed}
+use Rattle.constraint_set.proofs.Dots.{mixed, mixed_row, paired, pairs, pairs as all_pairs, value-mixed}
+use Rattle.constraint_set.proofs.Steps.{Each-append, Each-first, Each-second, Raises, Lowers, part_raising, part_lowering, length-mixed, get-mixed}
 
 -- ---- steps that may be refused
 pub ok_of : {A B : Type 0} (w : Result A Refusal) (f : A → Result B Refusal) (b : B) → (w >>= f) ≡ Ok b → (a : A) × ((w ≡ Ok a) × (f a ≡ Ok b))
@@ -119,9 +118,10 @@ module _ (k : ℕ) (p n : LinearRow) (up : Raises k p) (down : Lowers k n) where
   pair_holds row x q e h =
       let same = pair_is k p n row h in
       let v : pos g *ℤ value_at row x q ≡ value_at (paired k p n) x q = ap (λ r. pos g *ℤ value_at r x q) same ∙ value_same x q e in
-      let low = shared_positive in
-      ( (λ m. subst (λ z. pos 0 ≤ℤ z) v (mul_nonneg (pos g) (value_at row x q) (omega (arith, ints)) m))
-      , (λ m. mul_cancel_right (pos 0) (value_at row x q) (pos g) (back (pos g) (value_at row x q) (subst (λ z. pos 0 ≤ℤ z) (sym v) m)) (omega (arith, ints, low))))
+      let low = shared_positive in (
+        (λ m. subst (λ z. pos 0 ≤ℤ z) v (mul_nonneg (pos g) (value_at row x q) (omega (arith, ints)) m)),
+        (λ m. mul_cancel_right (pos 0) (value_at row x q) (pos g) (back (pos g) (value_at row x q) (subst (λ z. pos 0 ≤ℤ z) (sym v) m)) (omega (arith, ints, low))),
+      )
     where
       back : (g v : ℤ) → pos 0 ≤ℤ (g *ℤ v) → (pos 0 *ℤ g) ≤ℤ (v *ℤ g)
       back g v m = let e : v *ℤ g ≡ g *ℤ v = ring (Var v ⊗ Var g) (Var g ⊗ Var v) (omega arith) in omega (arith, ints, e)
@@ -140,6 +140,7 @@ module _ (k : ℕ) (p n : LinearRow) (up : Raises k p) (down : Lowers k n) where
     where
       turn : (x y : ℤ) → x ≡ neg_ℤ y → y ≡ neg_ℤ x
       turn x y e = omega (arith, ints)
+
       opposite : coef k n ≡ neg_ℤ (pos g *ℤ lower_factor k p n)
       opposite = turn (pos g *ℤ lower_factor k p n) (coef k n) lower_exact
 
@@ -173,16 +174,17 @@ module _ (k m : ℕ) where
         wide = (pair_wide k p n up.0 downs.0.0 m first.0 up.1 downs.0.1 first.1.0, rest.wide);
         cancelled = (pair_cancels k p n up.0 downs.0.0 first.0 long first.1.0, rest.cancelled);
         alike = λ x q. (let one = pair_holds k p n up.0 downs.0.0 first.0 x q long first.1.0 in
-          ((λ h. (one.0 h.0, (rest.alike x q).0 h.1)), (λ h. (one.1 h.0, (rest.alike x q).1 h.1))))
+            ((λ h. (one.0 h.0, (rest.alike x q).0 h.1)), (λ h. (one.1 h.0, (rest.alike x q).1 h.1))));
       })
 
   joined : (a b c d : List LinearRow) → Made a c → Made b d → Made (a ++ b) (c ++ d)
   joined a b c d f s = record {
     wide = Each-append (λ r. length r.coefs ≡ m) a b f.wide s.wide;
     cancelled = Each-append (λ r. coef k r ≡ pos 0) a b f.cancelled s.cancelled;
-    alike = λ x q.
-      ( (λ h. Each-append (HoldsAtPoint x q) c d ((f.alike x q).0 (Each-first (HoldsAtPoint x q) a b h)) ((s.alike x q).0 (Each-second (HoldsAtPoint x q) a b h)))
-      , (λ h. Each-append (HoldsAtPoint x q) a b ((f.alike x q).1 (Each-first (HoldsAtPoint x q) c d h)) ((s.alike x q).1 (Each-second (HoldsAtPoint x q) c d h))))
+    alike = λ x q. (
+      (λ h. Each-append (HoldsAtPoint x q) c d ((f.alike x q).0 (Each-first (HoldsAtPoint x q) a b h)) ((s.alike x q).0 (Each-second (HoldsAtPoint x q) a b h))),
+      (λ h. Each-append (HoldsAtPoint x q) a b ((f.alike x q).1 (Each-first (HoldsAtPoint x q) c d h)) ((s.alike x q).1 (Each-second (HoldsAtPoint x q) c d h))),
+    );
   }
 
   pub all_made : (ps ns out : List LinearRow) → Each Up ps → Each Down ns → pairs_of k ps ns ≡ Ok out → Made out (pairs k ps ns)

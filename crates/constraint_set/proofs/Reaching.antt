@@ -1,17 +1,17 @@
 -- The reach of a form is what elimination answers.
-use Rattle.std.proofs.Common.{◌≡◌, ℕ, zero, suc, ◌+◌, ◌<◌, ◌≤◌, Bool, true, false, cond, MatchBool, List, [], ◌∷◌, ◌++◌, map, length, Option, Some, None, Result, Ok, Err, ℤ, pos, negsuc, neg_ℤ, ◌+ℤ◌, ◌*ℤ◌, ◌≤ℤ◌, ◌<ℤ◌, get_or, refl, sym, ◌∙◌, ap, arith, subst, nat_lt}
+use Rattle.std.proofs.Common.{◌≡◌, ℕ, zero, suc, ◌+◌, ◌<◌, Bool, true, false, cond, List, [], ◌∷◌, ◌++◌, map, length, Result, Ok, Err, ℤ, pos, neg_ℤ, ◌+ℤ◌, ◌*ℤ◌, ◌≤ℤ◌, ◌<ℤ◌, get_or, refl, sym, ◌∙◌, ap, arith, subst, nat_lt}
 use Rattle.std.proofs.lemmas.Int.{ints}
 use Rattle.std.proofs.lemmas.List.{ext_get_or}
-use Rattle.std.specs.Int.{int_max, int_min, int_div_euclid}
+use Rattle.std.specs.Int.{int_max, int_min}
 use Rattle.std.specs.List.{reduce}
-use Rattle.num_row.proofs.Ring.{Poly, Var, ◌⊕◌, ◌⊗◌, Neg, value, ring, mul_nonneg}
-use Rattle.num_row.proofs.Order.{mul_le_right, mul_cancel_right}
+use Rattle.num_row.proofs.Ring.{Var, ◌⊗◌, Neg, ring}
+use Rattle.num_row.proofs.Order.{mul_le_right}
 use Rattle.constraint_set.specs.Lists.{Each}
-use Rattle.constraint_set.specs.Points.{LinearRow, LinearSystem, value_at, HoldsAtPoint, IsPoint, PointOf, AreWide, coef}
+use Rattle.constraint_set.specs.Points.{LinearRow, LinearSystem, value_at, IsPoint, PointOf, AreWide, coef}
 use Rattle.constraint_set.specs.Projection.{scaled, AgreesOutside}
 use Rattle.constraint_set.specs.Tidy.{tidied}
-use Rattle.constraint_set.specs.Elimination.{Refusal, too_many, ◌>>=◌, or_wide, raising, lowering, without, step_by, steps_by, step, steps, countdown, variable_limit}
-use Rattle.constraint_set.specs.Reach.{HasNoPoint, HasPoint, IsLeast, IsGreatest, IsBounded, has_negative, valued, lower_bound, upper_bound, bounds_by, greatest_lower, least_upper, Reach, never, between, reach_of, TellsReach, HasBounds}
+use Rattle.constraint_set.specs.Elimination.{Refusal, too_many, ◌>>=◌, or_wide, raising, lowering, without, steps_by, step, steps, countdown, variable_limit}
+use Rattle.constraint_set.specs.Reach.{HasNoPoint, HasPoint, IsLeast, IsGreatest, has_negative, valued, lower_bound, upper_bound, bounds_by, greatest_lower, least_upper, Reach, never, between, reach_of, TellsReach}
 use Rattle.constraint_set.proofs.Steps.{Each-weaken, Raises, Lowers, part_raising, part_lowering, part_without, whole}
 use Rattle.constraint_set.proofs.Lifting.{get-scaled, length-scaled}
 use Rattle.constraint_set.proofs.Tidying.{tidied_same, tidied_wide}
@@ -64,8 +64,7 @@ least_is rows k h =
     fewest upper_bound (lowering 0 rows) k (ap (reduce int_min) (sym b) ∙ some_of_wide (reduce int_min first.0) k first.1.1)
 
 module _ (s : LinearSystem) (form : LinearRow) (wide : AreWide s.vars s.rows) (long : length form.coefs ≡ s.vars)
-  (both rows : List LinearRow) (made : valued s form ≡ Ok both) (run : steps (map suc (countdown s.vars)) (tidied both) ≡ Ok rows) where
-
+    (both rows : List LinearRow) (made : valued s form ≡ Ok both) (run : steps (map suc (countdown s.vars)) (tidied both) ≡ Ok rows) where
   down : (p : List ℤ) (q : ℤ) → PointOf s p q → IsPoint rows (value_at form p q ∷ zeros s.vars) q
   down = point_down s form wide long both rows made run
 
@@ -90,9 +89,9 @@ module _ (s : LinearSystem) (form : LinearRow) (wide : AreWide s.vars s.rows) (l
       let flats = part_without 0 (line v q) rows h in
       subst (λ rs. Tightest (coef 0) (λ r. r.constant) rs (lowering 0 rows ++ without 0 rows)) (sym e)
       (tight (coef 0) (λ r. r.constant) first more (lowering 0 rows ++ without 0 rows) v q scale
-        (subst (Each (Raises 0)) e (firsts (Raises 0) (line v q) (raising 0 rows) ups)) flat_low
-        (subst (Each (line v q)) e (seconds (Raises 0) (line v q) (raising 0 rows) ups))
-        (joined (line v q) (lowering 0 rows) (without 0 rows) (seconds (Lowers 0) (line v q) (lowering 0 rows) lows) (seconds (λ r. coef 0 r ≡ pos 0) (line v q) (without 0 rows) flats)))
+      (subst (Each (Raises 0)) e (firsts (Raises 0) (line v q) (raising 0 rows) ups)) flat_low
+      (subst (Each (line v q)) e (seconds (Raises 0) (line v q) (raising 0 rows) ups))
+      (joined (line v q) (lowering 0 rows) (without 0 rows) (seconds (Lowers 0) (line v q) (lowering 0 rows) lows) (seconds (λ r. coef 0 r ≡ pos 0) (line v q) (without 0 rows) flats)))
 
   least_law : (k : ℤ) → greatest_lower rows ≡ Ok k → HasPoint s → IsLeast s form k
   least_law k h has =
@@ -108,7 +107,7 @@ module _ (s : LinearSystem) (form : LinearRow) (wide : AreWide s.vars s.rows) (l
         q = source.t *ℤ c;
         found = source.point;
         reached = times source.t (neg_ℤ d) k c (value_at form source.p (source.t *ℤ c)) source.positive (w.reached k m.above) source.value;
-        least = λ j x y point at_most. m.under j (each_under j x y point at_most)
+        least = λ j x y point at_most. m.under j (each_under j x y point at_most);
       }
     where
       times : (t v k c w : ℤ) → pos 0 <ℤ t → v ≤ℤ (k *ℤ c) → w ≡ t *ℤ v → w ≤ℤ (k *ℤ (t *ℤ c))
@@ -117,6 +116,7 @@ module _ (s : LinearSystem) (form : LinearRow) (wide : AreWide s.vars s.rows) (l
           let two : (k *ℤ c) *ℤ t ≡ k *ℤ (t *ℤ c) = ring (Var k ⊗ Var c ⊗ Var t) (Var k ⊗ (Var t ⊗ Var c)) (omega arith) in
           let three : v *ℤ t ≡ t *ℤ v = ring (Var v ⊗ Var t) (Var t ⊗ Var v) (omega arith) in
           omega (arith, ints, one, two, three, e)
+
       each_under : (j : ℤ) (x : List ℤ) (y : ℤ) → PointOf s x y → value_at form x y ≤ℤ (j *ℤ y) → Each (λ r. lower_bound r ≤ℤ j) (raising 0 rows)
       each_under j x y point at_most =
           Each-weaken (λ r. Raises 0 r × line (value_at form x y) y r) (λ r. lower_bound r ≤ℤ j) (λ r h. bound_least (coef 0 r) r.constant (value_at form x y) y j h.0 point.point.0 h.1 at_most) (raising 0 rows)
@@ -155,9 +155,9 @@ module _ (s : LinearSystem) (form : LinearRow) (wide : AreWide s.vars s.rows) (l
       let positive = Each-weaken (λ r. Lowers 0 r × turned (neg_ℤ v) q r) (λ r. pos 0 <ℤ neg_ℤ (coef 0 r)) (λ r x. (let low = x.0 in omega (arith, ints))) (lowering 0 rows) lows in
       subst (λ rs. Tightest (λ r. neg_ℤ (coef 0 r)) (λ r. r.constant) rs (raising 0 rows ++ without 0 rows)) (sym e)
       (tight (λ r. neg_ℤ (coef 0 r)) (λ r. r.constant) first more (raising 0 rows ++ without 0 rows) (neg_ℤ v) q scale
-        (subst (Each (λ r. pos 0 <ℤ neg_ℤ (coef 0 r))) e positive) flat_high
-        (subst (Each (turned (neg_ℤ v) q)) e (seconds (Lowers 0) (turned (neg_ℤ v) q) (lowering 0 rows) lows))
-        (joined (turned (neg_ℤ v) q) (raising 0 rows) (without 0 rows) (seconds (Raises 0) (turned (neg_ℤ v) q) (raising 0 rows) ups) (seconds (λ r. coef 0 r ≡ pos 0) (turned (neg_ℤ v) q) (without 0 rows) flats)))
+      (subst (Each (λ r. pos 0 <ℤ neg_ℤ (coef 0 r))) e positive) flat_high
+      (subst (Each (turned (neg_ℤ v) q)) e (seconds (Lowers 0) (turned (neg_ℤ v) q) (lowering 0 rows) lows))
+      (joined (turned (neg_ℤ v) q) (raising 0 rows) (without 0 rows) (seconds (Raises 0) (turned (neg_ℤ v) q) (raising 0 rows) ups) (seconds (λ r. coef 0 r ≡ pos 0) (turned (neg_ℤ v) q) (without 0 rows) flats)))
 
   greatest_law : (k : ℤ) → least_upper rows ≡ Ok k → HasPoint s → IsGreatest s form k
   unfolding turned
@@ -175,7 +175,7 @@ module _ (s : LinearSystem) (form : LinearRow) (wide : AreWide s.vars s.rows) (l
         q = source.t *ℤ c;
         found = source.point;
         reached = times source.t d k c (value_at form source.p (source.t *ℤ c)) source.positive reach source.value;
-        greatest = λ j x y point at_least. m.over j (each_over j x y point at_least)
+        greatest = λ j x y point at_least. m.over j (each_over j x y point at_least);
       }
     where
       times : (t v k c w : ℤ) → pos 0 <ℤ t → neg_ℤ v ≤ℤ (neg_ℤ k *ℤ c) → w ≡ t *ℤ v → (k *ℤ (t *ℤ c)) ≤ℤ w
@@ -185,11 +185,13 @@ module _ (s : LinearSystem) (form : LinearRow) (wide : AreWide s.vars s.rows) (l
           let two : (k *ℤ c) *ℤ t ≡ k *ℤ (t *ℤ c) = ring (Var k ⊗ Var c ⊗ Var t) (Var k ⊗ (Var t ⊗ Var c)) (omega arith) in
           let three : v *ℤ t ≡ t *ℤ v = ring (Var v ⊗ Var t) (Var t ⊗ Var v) (omega arith) in
           omega (arith, ints, one, two, three, e)
+
       over_by : (r : LinearRow) (v y j : ℤ) → pos 0 <ℤ y → Lowers 0 r → line v y r → (j *ℤ y) ≤ℤ v → j ≤ℤ upper_bound r
       over_by r v y j scale low h g =
           let e : neg_ℤ j *ℤ y ≡ neg_ℤ (j *ℤ y) = ring (Neg (Var j) ⊗ Var y) (Neg (Var j ⊗ Var y)) (omega arith) in
           let one = bound_least (neg_ℤ (coef 0 r)) r.constant (neg_ℤ v) y (neg_ℤ j) (omega (arith, ints, low)) scale (turn v y r h) (omega (arith, ints, e, g)) in
           omega (arith, ints, one)
+
       each_over : (j : ℤ) (x : List ℤ) (y : ℤ) → PointOf s x y → (j *ℤ y) ≤ℤ value_at form x y → Each (λ r. j ≤ℤ upper_bound r) (lowering 0 rows)
       each_over j x y point at_least =
           Each-weaken (λ r. Lowers 0 r × line (value_at form x y) y r) (λ r. j ≤ℤ upper_bound r) (λ r h. over_by r (value_at form x y) y j point.point.0 h.0 h.1 at_least) (lowering 0 rows)
@@ -213,8 +215,8 @@ module _ (s : LinearSystem) (form : LinearRow) (wide : AreWide s.vars s.rows) (l
 
     never_law : has_negative last ≡ true → HasNoPoint s
     never_law h = λ p q point.
-      no_zeros_point last (suc s.vars) q h
-      (projects_all (suc s.vars) tidied tidied_same (tidied_wide (suc s.vars)) (0 ∷ []) rows last within (rows_wide s form wide long both rows made run) one_step
+        no_zeros_point last (suc s.vars) q h
+        (projects_all (suc s.vars) tidied tidied_same (tidied_wide (suc s.vars)) (0 ∷ []) rows last within (rows_wide s form wide long both rows made run) one_step
         (value_at form p q ∷ zeros s.vars) (zeros (suc s.vars)) q (ap suc (length-zeros s.vars)) (down p q point) (but_first (value_at form p q)))
 
     -- what stands behind the first place of a lifted point of zeros
@@ -224,6 +226,7 @@ module _ (s : LinearSystem) (form : LinearRow) (wide : AreWide s.vars s.rows) (l
       where
         l : length rest ≡ length (zeros s.vars)
         l = let e = a.as_long in let z = length-scaled t (zeros (suc s.vars)) in omega (arith, e, z)
+
         at : (i : ℕ) → i < length (zeros s.vars) → get_or rest i (pos 0) ≡ get_or (zeros s.vars) i (pos 0)
         at i h =
             a.same (suc i) ((λ e. let x : ⊥ = omega arith in x), tt) ∙ get-scaled t (zeros (suc s.vars)) (suc i) (omega arith)
@@ -232,7 +235,7 @@ module _ (s : LinearSystem) (form : LinearRow) (wide : AreWide s.vars s.rows) (l
     pub some_law : has_negative last ≡ false → HasPoint s
     some_law h =
         let r = lifts_all (suc s.vars) tidied tidied_same (tidied_wide (suc s.vars)) (0 ∷ []) rows last within (rows_wide s form wide long both rows made run) one_step
-            (zeros (suc s.vars)) (pos 1) (length-zeros (suc s.vars)) (zeros_point last (suc s.vars) h) in
+        (zeros (suc s.vars)) (pos 1) (length-zeros (suc s.vars)) (zeros_point last (suc s.vars) h) in
         let v = get_or r.raised 0 (pos 0) in
         let source = up v (r.t *ℤ pos 1) (subst (λ xs. IsPoint rows xs (r.t *ℤ pos 1)) (rest_zero r.t r.raised r.agrees) r.point) in
         (source.p, (source.t *ℤ (r.t *ℤ pos 1), source.point))

@@ -1,14 +1,13 @@
 -- A step of elimination: its parts are the whole, and each scaled point of the rows is one of the step's.
-use Rattle.std.proofs.Common.{◌≡◌, ℕ, zero, suc, ◌+◌, ◌<◌, ◌≤◌, Bool, true, false, cond, List, [], ◌∷◌, ◌++◌, map, length, ℤ, pos, negsuc, neg_ℤ, ◌+ℤ◌, ◌*ℤ◌, ◌≤ℤ◌, ◌<ℤ◌, get_or, refl, sym, ◌∙◌, ap, arith}
-use Rattle.std.specs.Prelude.{slice_index_or, slice_set, int_lt}
+use Rattle.std.proofs.Common.{◌≡◌, ℕ, zero, suc, ◌<◌, Bool, true, false, cond, List, [], ◌∷◌, ◌++◌, map, length, ℤ, pos, neg_ℤ, ◌+ℤ◌, ◌*ℤ◌, ◌<ℤ◌, get_or, refl, sym, ◌∙◌, ap, arith}
 use Rattle.std.proofs.lemmas.Int.{ints}
 use Rattle.std.proofs.Math.ListN.{set}
-use Rattle.num_row.proofs.Ring.{Poly, Var, ◌⊕◌, ◌⊗◌, Neg, value, ring, mul_nonneg}
+use Rattle.num_row.proofs.Ring.{Var, ◌⊕◌, ◌⊗◌, Neg, ring, mul_nonneg}
 use Rattle.std.proofs.lemmas.Bool.Decides.{Decides-int_eq}
 use Rattle.constraint_set.specs.Lists.{Each}
-use Rattle.constraint_set.specs.Points.{LinearRow, dot, value_at, HoldsAtPoint, IsPoint, coef, AreWide}
+use Rattle.constraint_set.specs.Points.{LinearRow, value_at, HoldsAtPoint, IsPoint, coef, AreWide}
 use Rattle.constraint_set.specs.Elimination.{is_raising, is_lowering, is_flat, raising, lowering, without}
-use Rattle.constraint_set.proofs.Dots.{mixed, mixed_row, paired, pairs, plain_step, value-mixed, dot-set}
+use Rattle.constraint_set.proofs.Dots.{mixed, paired, pairs, plain_step, value-mixed, dot-set}
 
 -- ---- lists
 pub Each-append : {A : Type 0} (P : A → Type 0) (xs ys : List A) → Each P xs → Each P ys → Each P (xs ++ ys)
@@ -48,7 +47,6 @@ Lowers k r = coef k r <ℤ pos 0
 
 module _ (k : ℕ) (P : LinearRow → Type 0) where
   up_by : (r : LinearRow) (rest : List LinearRow) → P r → Each (λ r. Raises k r × P r) rest → (b : Bool) → is_raising k r ≡ b → Each (λ r. Raises k r × P r) (cond b (r ∷ rest) rest)
-
   up_by r rest h hs true e = ((omega (arith, ints, e), h), hs)
   up_by r rest h hs false e = hs
 
@@ -57,7 +55,6 @@ module _ (k : ℕ) (P : LinearRow → Type 0) where
   part_raising (r ∷ rs) h = up_by r (raising k rs) h.0 (part_raising rs h.1) (is_raising k r) refl
 
   down_by : (r : LinearRow) (rest : List LinearRow) → P r → Each (λ r. Lowers k r × P r) rest → (b : Bool) → is_lowering k r ≡ b → Each (λ r. Lowers k r × P r) (cond b (r ∷ rest) rest)
-
   down_by r rest h hs true e = ((omega (arith, ints, e), h), hs)
   down_by r rest h hs false e = hs
 
@@ -117,14 +114,14 @@ Free k n p q r = (coef k r ≡ pos 0) × Known n p q r
 
 module _ (k n : ℕ) (p : List ℤ) (q : ℤ) where
   pair_free : (r s : LinearRow) → Raises k r × Known n p q r → Lowers k s × Known n p q s → Free k n p q (paired k r s)
-
   pair_free r s h g =
       let one = mul_nonneg (neg_ℤ (coef k s)) (value_at r p q) (omega (arith, ints, g.0)) h.1.1 in
       let two = mul_nonneg (coef k r) (value_at s p q) (omega (arith, ints, h.0)) g.1.1 in
       let l = h.1.0 ∙ sym g.1.0 in
-      let e = value-mixed (neg_ℤ (coef k s)) r (coef k r) s p q l in
-      ( get-mixed (neg_ℤ (coef k s)) r.coefs (coef k r) s.coefs k l ∙ ring (Neg (Var (coef k s)) ⊗ Var (coef k r) ⊕ Var (coef k r) ⊗ Var (coef k s)) (Var (pos 0)) (omega arith)
-      , (length-mixed (neg_ℤ (coef k s)) r.coefs (coef k r) s.coefs l ∙ h.1.0, omega (arith, ints, one, two, e)))
+      let e = value-mixed (neg_ℤ (coef k s)) r (coef k r) s p q l in (
+        get-mixed (neg_ℤ (coef k s)) r.coefs (coef k r) s.coefs k l ∙ ring (Neg (Var (coef k s)) ⊗ Var (coef k r) ⊕ Var (coef k r) ⊗ Var (coef k s)) (Var (pos 0)) (omega arith),
+        (length-mixed (neg_ℤ (coef k s)) r.coefs (coef k r) s.coefs l ∙ h.1.0, omega (arith, ints, one, two, e)),
+      )
 
   pairs_free : (rs ss : List LinearRow) → Each (λ r. Raises k r × Known n p q r) rs → Each (λ s. Lowers k s × Known n p q s) ss → Each (Free k n p q) (pairs k rs ss)
   pairs_free [] ss h g = tt
@@ -134,14 +131,12 @@ module _ (k n : ℕ) (p : List ℤ) (q : ℤ) where
       (pairs_free rs ss h.1 g)
 
   pub step_free : (rows : List LinearRow) → Each (Known n p q) rows → Each (Free k n p q) (plain_step k rows)
-
   step_free rows h =
       Each-append (Free k n p q) (without k rows) (pairs k (raising k rows) (lowering k rows)) (part_without k (Known n p q) rows h)
       (pairs_free (raising k rows) (lowering k rows) (part_raising k (Known n p q) rows h) (part_lowering k (Known n p q) rows h))
 
 -- every scaled point of the rows is one of the step's, whatever stands in place k
 pub projects : (k n : ℕ) (rows : List LinearRow) (p : List ℤ) (q v : ℤ) → k < length p → AreWide n rows → IsPoint rows p q → IsPoint (plain_step k rows) (set p k v) q
-
 projects k n rows p q v h wide point =
     let free = step_free k n p q rows (Each-both (λ r. length r.coefs ≡ n) (HoldsAtPoint p q) (Known n p q) (λ r a b. (a, b)) rows wide point.1) in
     (point.0, Each-weaken (Free k n p q) (HoldsAtPoint (set p k v) q) (λ r f. keeps r f) (plain_step k rows) free)

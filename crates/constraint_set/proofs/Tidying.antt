@@ -1,13 +1,13 @@
 -- Tidying changes no scaled point.
-use Rattle.std.proofs.Common.{◌≡◌, ℕ, zero, suc, ◌+◌, ◌*◌, ◌/◌, ◌%◌, ◌<◌, ◌≤◌, Bool, true, false, cond, ◌&&◌, not, List, [], ◌∷◌, ◌++◌, map, length, fold, ℤ, pos, negsuc, neg_ℤ, ◌+ℤ◌, ◌*ℤ◌, ◌≤ℤ◌, ◌<ℤ◌, refl, sym, ◌∙◌, ap, arith, subst, int_eq, int_lt, unsigned_abs, int_div, ◌↔◌}
+use Rattle.std.proofs.Common.{◌≡◌, ℕ, zero, suc, ◌*◌, ◌/◌, ◌%◌, ◌<◌, Bool, true, false, cond, not, List, [], ◌∷◌, map, length, ℤ, pos, negsuc, neg_ℤ, ◌+ℤ◌, ◌*ℤ◌, ◌≤ℤ◌, ◌<ℤ◌, refl, sym, ◌∙◌, ap, arith, subst, int_eq, int_lt, unsigned_abs, int_div, ◌↔◌}
 use Rattle.std.proofs.lemmas.Int.{ints}
-use Rattle.std.specs.Int.{int_min, IsGcd, ◌∣◌}
+use Rattle.std.specs.Int.{int_min, ◌∣◌}
 use Rattle.std.specs.Cmp.Rules.{signed_items}
-use Rattle.std.proofs.lemmas.Nat.Gcd.{mod-eq-zero_of_dvd, dvd_of_mod-eq-zero}
+use Rattle.std.proofs.lemmas.Nat.Gcd.{mod-eq-zero_of_dvd}
 use Rattle.std.proofs.lemmas.List.{length-map}
 use Rattle.num_row.specs.Divisors.{gcd_of}
 use Rattle.num_row.proofs.Gcds.{gcd_of_is}
-use Rattle.num_row.proofs.Ring.{Poly, Var, ◌⊕◌, ◌⊗◌, Neg, value, ring, mul_nonneg}
+use Rattle.num_row.proofs.Ring.{Var, ◌⊕◌, ◌⊗◌, Neg, ring, mul_nonneg}
 use Rattle.num_row.proofs.Order.{mul_cancel_right, mul_le_right}
 use Rattle.constraint_set.specs.Lists.{Each}
 use Rattle.constraint_set.specs.Points.{LinearRow, dot, value_at, HoldsAtPoint, IsPoint, AreWide}
@@ -40,9 +40,10 @@ value-divided g r p q h k =
 -- a row divided by a common divisor holds at the same scaled points
 pub divided_holds : (g : ℕ) (r : LinearRow) (p : List ℤ) (q : ℤ) → 0 < g → Each (λ x. g ∣ unsigned_abs x) r.coefs → g ∣ unsigned_abs r.constant → HoldsAtPoint p q (divided g r) ↔ HoldsAtPoint p q r
 divided_holds g r p q low h k =
-    let e = value-divided g r p q h k in
-    ( (λ m. subst (λ z. pos 0 ≤ℤ z) e (mul_nonneg (pos g) (value_at (divided g r) p q) (omega (arith, ints)) m))
-    , (λ m. mul_cancel_right (pos 0) (value_at (divided g r) p q) (pos g) (back (value_at (divided g r) p q) (subst (λ z. pos 0 ≤ℤ z) (sym e) m)) (omega (arith, ints))))
+    let e = value-divided g r p q h k in (
+      (λ m. subst (λ z. pos 0 ≤ℤ z) e (mul_nonneg (pos g) (value_at (divided g r) p q) (omega (arith, ints)) m)),
+      (λ m. mul_cancel_right (pos 0) (value_at (divided g r) p q) (pos g) (back (value_at (divided g r) p q) (subst (λ z. pos 0 ≤ℤ z) (sym e) m)) (omega (arith, ints))),
+    )
   where
     back : (v : ℤ) → pos 0 ≤ℤ (pos g *ℤ v) → (pos 0 *ℤ pos g) ≤ℤ (v *ℤ pos g)
     back v m = omega (arith, ints)
@@ -66,12 +67,14 @@ module _ (p : List ℤ) (q : ℤ) (scale : pos 0 <ℤ q) where
       → Each Holds (cond b (record { coefs = s.coefs; constant = int_min s.constant r.constant } ∷ ss) (s ∷ added ss r)) ↔ ((Holds s × Each Holds ss) × Holds r)
   added_by r s ss rec true e =
       let f = (signed_items r.coefs s.coefs).0 e in
-      let l = least_holds s.coefs s.constant r.constant in
-      ( (λ m. let w = l.0 m.0 in ((w.0, m.1), subst (λ xs. Holds (record { coefs = xs; constant = r.constant })) (sym f) w.1))
-      , (λ m. (l.1 (m.0.0, subst (λ xs. Holds (record { coefs = xs; constant = r.constant })) f m.1), m.0.1)))
-  added_by r s ss rec false e =
-      ( (λ m. let w = rec.0 m.1 in ((m.0, w.0), w.1))
-      , (λ m. (m.0.0, rec.1 (m.0.1, m.1))))
+      let l = least_holds s.coefs s.constant r.constant in (
+        (λ m. let w = l.0 m.0 in ((w.0, m.1), subst (λ xs. Holds (record { coefs = xs; constant = r.constant })) (sym f) w.1)),
+        (λ m. (l.1 (m.0.0, subst (λ xs. Holds (record { coefs = xs; constant = r.constant })) f m.1), m.0.1)),
+      )
+  added_by r s ss rec false e = (
+    (λ m. let w = rec.0 m.1 in ((m.0, w.0), w.1)),
+    (λ m. (m.0.0, rec.1 (m.0.1, m.1))),
+  )
 
   -- the rows with one more hold exactly where the rows and that one do
   pub added_holds : (ss : List LinearRow) (r : LinearRow) → Each Holds (added ss r) ↔ (Each Holds ss × Holds r)
@@ -135,6 +138,7 @@ divisor_positive r h = by (divisor r) refl
         let d = divisor_divides r in
         let c = size_zero r.constant (zero_divides (unsigned_abs r.constant) (subst (λ g. g ∣ unsigned_abs r.constant) e d.0)) in
         and_from (all_zero r.coefs) (not (int_lt r.constant (pos 0))) (zeros r.coefs (subst (λ g. Each (λ x. g ∣ unsigned_abs x) r.coefs) e d.1)) (ap (λ z. not (int_lt z (pos 0))) c)
+
     by : (g : ℕ) → divisor r ≡ g → 0 < divisor r
     by zero e = absurd (let f = idle e in let x : ⊥ = cc in x)
     by (suc g) e = omega (arith, e)
@@ -157,9 +161,10 @@ module _ (p : List ℤ) (q : ℤ) (scale : pos 0 <ℤ q) where
   merged_holds kept [] = ((λ m. (m, tt)), (λ m. m.0))
   merged_holds kept (r ∷ rs) =
       let rest = merged_holds (added kept r) rs in
-      let one = added_holds p q scale kept r in
-      ( (λ m. let w = rest.0 m in let v = one.0 w.0 in (v.0, (v.1, w.1)))
-      , (λ m. rest.1 (one.1 (m.0, m.1.0), m.1.1)))
+      let one = added_holds p q scale kept r in (
+        (λ m. let w = rest.0 m in let v = one.0 w.0 in (v.0, (v.1, w.1))),
+        (λ m. rest.1 (one.1 (m.0, m.1.0), m.1.1)),
+      )
 
   tidied_holds : (rs : List LinearRow) → Each (HoldsAtPoint p q) (tidied rs) ↔ Each (HoldsAtPoint p q) rs
   unfolding tidied

@@ -1,8 +1,8 @@
 -- The least value of one variable over inequalities `c * v + d * q >= 0`: the tightest of those with a positive c gives it.
-use Rattle.std.proofs.Common.{◌≡◌, List, [], ◌∷◌, ℤ, pos, neg_ℤ, ◌+ℤ◌, ◌*ℤ◌, ◌≤ℤ◌, ◌<ℤ◌, refl, sym, ◌∙◌, ap, subst, arith}
+use Rattle.std.proofs.Common.{◌≡◌, List, [], ◌∷◌, ℤ, pos, neg_ℤ, ◌+ℤ◌, ◌*ℤ◌, ◌≤ℤ◌, ◌<ℤ◌, arith}
 use Rattle.std.specs.Int.{int_div_euclid}
 use Rattle.std.proofs.lemmas.Int.{ints}
-use Rattle.num_row.proofs.Ring.{Poly, Var, ◌⊕◌, ◌⊗◌, Neg, value, ring, mul_nonneg}
+use Rattle.num_row.proofs.Ring.{Var, ◌⊕◌, ◌⊗◌, Neg, ring, mul_nonneg}
 use Rattle.num_row.proofs.Order.{mul_le_right, mul_cancel_right}
 use Rattle.num_row.proofs.Floors.{floor_below, at_most_floor}
 use Rattle.constraint_set.specs.Lists.{Each}
@@ -35,7 +35,7 @@ other_holds c d e f v q low down scale mb ms =
     let one = mul_nonneg (neg_ℤ e) (c *ℤ v +ℤ d *ℤ q) (omega (arith, ints)) mb in
     let two = mul_nonneg c (e *ℤ v +ℤ f *ℤ q) (omega (arith, ints)) ms in
     let same : neg_ℤ e *ℤ (c *ℤ v +ℤ d *ℤ q) +ℤ c *ℤ (e *ℤ v +ℤ f *ℤ q) ≡ (e *ℤ neg_ℤ d +ℤ f *ℤ c) *ℤ q
-        = ring (Neg (Var e) ⊗ (Var c ⊗ Var v ⊕ Var d ⊗ Var q) ⊕ Var c ⊗ (Var e ⊗ Var v ⊕ Var f ⊗ Var q)) ((Var e ⊗ Neg (Var d) ⊕ Var f ⊗ Var c) ⊗ Var q) (omega arith) in
+    = ring (Neg (Var e) ⊗ (Var c ⊗ Var v ⊕ Var d ⊗ Var q) ⊕ Var c ⊗ (Var e ⊗ Var v ⊕ Var f ⊗ Var q)) ((Var e ⊗ Neg (Var d) ⊕ Var f ⊗ Var c) ⊗ Var q) (omega arith) in
     mul_cancel_right (pos 0) (e *ℤ neg_ℤ d +ℤ f *ℤ c) q (both _ _ _ _ one two same (ring (Var (pos 0) ⊗ Var q) (Var (pos 0)) (omega arith))) scale
   where
     both : (x y z w : ℤ) → pos 0 ≤ℤ x → pos 0 ≤ℤ y → x +ℤ y ≡ z → w ≡ pos 0 → w ≤ℤ z
@@ -89,5 +89,5 @@ module _ {A : Type 0} (c d : A → ℤ) where
         positive = w.1.0.0;
         ups_met = (tight_meets v q scale all w.0 a w.1.1.0, Each-weaken (λ s. (d w.0 *ℤ c s) ≤ℤ (d s *ℤ c w.0)) (Meets (neg_ℤ (d w.0)) (c w.0)) (λ s h. tight_meets v q scale all w.0 s h) ups w.1.1.1);
         others_met = others_meet v q scale all w.0 w.1.0.0 w.1.0.1.0 others downs mo;
-        reached = reach_of_best v q scale all w.0 w.1.0
+        reached = reach_of_best v q scale all w.0 w.1.0;
       }

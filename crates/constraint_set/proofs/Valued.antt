@@ -1,22 +1,21 @@
 -- A system with a variable v put before all others, which is the value of a form.
-use Rattle.std.proofs.Common.{◌≡◌, ℕ, zero, suc, ◌+◌, ◌<◌, ◌≤◌, List, [], ◌∷◌, ◌++◌, map, length, Result, Ok, Err, ℤ, pos, negsuc, neg_ℤ, ◌+ℤ◌, ◌*ℤ◌, ◌≤ℤ◌, ◌<ℤ◌, get_or, refl, sym, ◌∙◌, ap, arith, subst, Bool, true, false, nat_lt, ltb-true}
+use Rattle.std.proofs.Common.{◌≡◌, ℕ, zero, suc, ◌<◌, ◌≤◌, List, [], ◌∷◌, ◌++◌, map, length, Ok, ℤ, pos, neg_ℤ, ◌+ℤ◌, ◌*ℤ◌, ◌≤ℤ◌, ◌<ℤ◌, get_or, refl, sym, ◌∙◌, ap, arith, subst, Bool, true, false, nat_lt, ltb-true}
 use Rattle.std.proofs.lemmas.Int.{ints}
 use Rattle.std.proofs.lemmas.List.{length-map, get_or_past}
 use Rattle.std.proofs.lemmas.Bool.{ltb-false}
 use Rattle.num_row.specs.Ints.{narrowed}
 use Rattle.num_row.proofs.Narrow.{narrowed_some}
-use Rattle.num_row.proofs.Ring.{Poly, Var, ◌⊕◌, ◌⊗◌, Neg, value, ring}
+use Rattle.num_row.proofs.Ring.{Var, ◌⊕◌, ◌⊗◌, Neg, ring}
 use Rattle.constraint_set.specs.Lists.{Each}
 use Rattle.constraint_set.specs.Points.{LinearRow, LinearSystem, dot, value_at, HoldsAtPoint, IsPoint, PointOf, AreWide, coef}
-use Rattle.constraint_set.specs.Projection.{scaled, AgreesOutside}
+use Rattle.constraint_set.specs.Projection.{AgreesOutside}
 use Rattle.constraint_set.specs.Tidy.{tidied}
-use Rattle.constraint_set.specs.Elimination.{Refusal, ◌>>=◌, or_wide, steps, countdown}
+use Rattle.constraint_set.specs.Elimination.{◌>>=◌, or_wide, steps, countdown}
 use Rattle.constraint_set.specs.Reach.{behind, at_least, at_most, negated, valued}
 use Rattle.constraint_set.proofs.Pairs.{ok_of, some_of_wide}
 use Rattle.constraint_set.proofs.Steps.{Each-append, Each-first, Each-second, Each-map, Each-unmap, Each-weaken}
-use Rattle.constraint_set.proofs.Lifting.{get-scaled, length-scaled}
-use Rattle.constraint_set.proofs.Eliminating.{over, points_project, points_lift, out_wide}
-use Rattle.constraint_set.proofs.Emptiness.{zeros, length-zeros, get-zeros, dot-zeros, countdown_within}
+use Rattle.constraint_set.proofs.Eliminating.{points_project, points_lift, out_wide}
+use Rattle.constraint_set.proofs.Emptiness.{zeros, length-zeros, dot-zeros}
 
 -- ---- the rows
 negated_are : (xs ys : List ℤ) → negated xs ≡ Ok ys → ys ≡ map neg_ℤ xs
@@ -69,19 +68,21 @@ module _ (form : LinearRow) (v : ℤ) (p : List ℤ) (q : ℤ) where
 
   -- v and p are a scaled point exactly where p is, and v is the value of the form
   pub to_valued : (rows : List LinearRow) → IsPoint rows p q → v ≡ value_at form p q → IsPoint (valued_rows rows form) (v ∷ p) q
-  to_valued rows point e =
-      ( point.0
-      , Each-append (HoldsAtPoint (v ∷ p) q) (map behind rows) (at_least (map neg_ℤ form.coefs) (neg_ℤ form.constant) ∷ at_most form ∷ [])
-      (Each-map (HoldsAtPoint (v ∷ p) q) behind rows (Each-weaken (HoldsAtPoint p q) (λ r. HoldsAtPoint (v ∷ p) q (behind r)) (λ r h. subst (λ z. pos 0 ≤ℤ z) (sym (behind_value r)) h) rows point.1))
-      (omega (arith, ints, least_value, e), (omega (arith, ints, most_value, e), tt)))
+  to_valued rows point e = (
+    point.0,
+    Each-append (HoldsAtPoint (v ∷ p) q) (map behind rows) (at_least (map neg_ℤ form.coefs) (neg_ℤ form.constant) ∷ at_most form ∷ [])
+        (Each-map (HoldsAtPoint (v ∷ p) q) behind rows (Each-weaken (HoldsAtPoint p q) (λ r. HoldsAtPoint (v ∷ p) q (behind r)) (λ r h. subst (λ z. pos 0 ≤ℤ z) (sym (behind_value r)) h) rows point.1))
+        (omega (arith, ints, least_value, e), (omega (arith, ints, most_value, e), tt)),
+  )
 
   pub from_valued : (rows : List LinearRow) → IsPoint (valued_rows rows form) (v ∷ p) q → IsPoint rows p q × (v ≡ value_at form p q)
   from_valued rows point =
       let pair = at_least (map neg_ℤ form.coefs) (neg_ℤ form.constant) ∷ at_most form ∷ [] in
       let front = Each-unmap (HoldsAtPoint (v ∷ p) q) behind rows (Each-first (HoldsAtPoint (v ∷ p) q) (map behind rows) pair point.1) in
-      let back = Each-second (HoldsAtPoint (v ∷ p) q) (map behind rows) pair point.1 in
-      ( (point.0, Each-weaken (λ r. HoldsAtPoint (v ∷ p) q (behind r)) (HoldsAtPoint p q) (λ r h. subst (λ z. pos 0 ≤ℤ z) (behind_value r) h) rows front)
-      , omega (arith, ints, least_value, most_value, back.0, back.1.0))
+      let back = Each-second (HoldsAtPoint (v ∷ p) q) (map behind rows) pair point.1 in (
+        (point.0, Each-weaken (λ r. HoldsAtPoint (v ∷ p) q (behind r)) (HoldsAtPoint p q) (λ r h. subst (λ z. pos 0 ≤ℤ z) (behind_value r) h) rows front),
+        omega (arith, ints, least_value, most_value, back.0, back.1.0),
+      )
 
 -- ---- all variables but v eliminated
 -- rows over v alone, at a point whose other places are 0
@@ -101,7 +102,7 @@ to_line rows n v q point = Each-weaken (HoldsAtPoint (v ∷ zeros n) q) (line v 
 pub from_line : (rows : List LinearRow) (n : ℕ) (v q : ℤ) → pos 0 <ℤ q → Each (line v q) rows → IsPoint rows (v ∷ zeros n) q
 from_line rows n v q scale h = (scale, Each-weaken (line v q) (HoldsAtPoint (v ∷ zeros n) q) (λ r h. subst (λ z. pos 0 ≤ℤ z) (sym (line_value r n v q)) h) rows h)
 
-shifted_within : (n m : ℕ) → n ≤ m → Each (λ k. k < suc m) (map suc (countdown n))
+pub shifted_within : (n m : ℕ) → n ≤ m → Each (λ k. k < suc m) (map suc (countdown n))
 shifted_within zero m h = tt
 shifted_within (suc n) m h = (omega arith, shifted_within n m (omega arith))
 
@@ -139,8 +140,7 @@ pub record Source (s : LinearSystem) (form : LinearRow) (v q : ℤ) : Type 0 whe
   pub value : value_at form p (t *ℤ q) ≡ t *ℤ v
 
 module _ (s : LinearSystem) (form : LinearRow) (wide : AreWide s.vars s.rows) (long : length form.coefs ≡ s.vars)
-  (both rows : List LinearRow) (made : valued s form ≡ Ok both) (run : steps (map suc (countdown s.vars)) (tidied both) ≡ Ok rows) where
-
+    (both rows : List LinearRow) (made : valued s form ≡ Ok both) (run : steps (map suc (countdown s.vars)) (tidied both) ≡ Ok rows) where
   both_wide : AreWide (suc s.vars) both
   both_wide = subst (AreWide (suc s.vars)) (sym (valued_are s form both made)) (valued_wide s.vars s.rows form wide long)
 
@@ -159,7 +159,7 @@ module _ (s : LinearSystem) (form : LinearRow) (wide : AreWide s.vars s.rows) (l
   pub point_up : (v q : ℤ) → IsPoint rows (v ∷ zeros s.vars) q → Source s form v q
   point_up v q point =
       let up = points_lift (suc s.vars) (map suc (countdown s.vars)) both rows (shifted_within s.vars s.vars (omega arith)) both_wide run (v ∷ zeros s.vars) q
-          (record { as_long = ap suc (length-zeros s.vars); point = point }) in
+      (record { as_long = ap suc (length-zeros s.vars); point = point }) in
       source up.t up.raised up.positive up.point.as_long (up.agrees.same 0 (not_zero s.vars)) (subst (λ rs. IsPoint rs up.raised (up.t *ℤ q)) (valued_are s form both made) up.point.point)
     where
       source : (t : ℤ) (raised : List ℤ) → pos 0 <ℤ t → length raised ≡ suc s.vars → get_or raised 0 (pos 0) ≡ t *ℤ v → IsPoint (valued_rows s.rows form) raised (t *ℤ q) → Source s form v q

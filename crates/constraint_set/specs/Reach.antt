@@ -127,4 +127,4 @@ TellsReach s form (between least greatest) = IsLeast s form least × IsGreatest 
 -- where the form is bounded and there are scaled points, v has a lower and an upper bound
 abbrev pub HasBounds : LinearSystem → LinearRow → Type 0
 HasBounds s form = (both rows last : List LinearRow) → valued s form ≡ Ok both → steps (map suc (countdown s.vars)) (tidied both) ≡ Ok rows → step 0 rows ≡ Ok last
-  → has_negative last ≡ false → ¬ (raising 0 rows ≡ []) × ¬ (lowering 0 rows ≡ [])
+    → has_negative last ≡ false → ¬ (raising 0 rows ≡ []) × ¬ (lowering 0 rows ≡ [])

@@ -1,15 +1,14 @@
 -- Steps that may be refused, one after another.
 use Rattle.std.proofs.Common.{◌≡◌, ℕ, zero, suc, ◌/◌, ◌%◌, ◌<◌, ◌<ℤ◌, negsuc, arith, List, ℤ, pos, Result, Ok, Err, Some, None, ap, subst, sym, ◌∙◌}
-use Rattle.std.specs.Prelude.{unsigned_abs, Vec}
-use Rattle.std.specs.declared.alloc.Global.{Global}
+use Rattle.std.specs.Prelude.{unsigned_abs}
 use Rattle.std.proofs.lemmas.Int.{ints}
 use Rattle.std.specs.Int.{IsGcd}
 use Rattle.std.proofs.lemmas.Nat.Gcd.{mod-eq-zero_of_dvd}
 use Rattle.num_row.specs.Ints.{narrowed, combined}
 use Rattle.num_row.specs.Divisors.{gcd_of}
 use Rattle.constraint_set.specs.Points.{LinearRow, coef}
-use Rattle.constraint_set.specs.Elimination.{Refusal, too_wide, too_many, ◌>>=◌, or_wide, mixed_by, pair_of}
-use Rattle.projection.specs.Answers.{Meets, IsRefused}
+use Rattle.constraint_set.specs.Elimination.{Refusal, too_wide, ◌>>=◌, or_wide, mixed_by, pair_of}
+use Rattle.projection.specs.Answers.{IsRefused}
 use Rattle.projection.specs.declared.fault.ReachFault.{ReachFault}
 use Rattle.projection.specs.declared.fault.ReachFault.TheVariants.{Wide, Rows, Memory}
 

@@ -1,7 +1,7 @@
 -- Numbers counted down, and the exits of emptiness.
-use Rattle.std.proofs.Common.{◌≡◌, ℕ, suc, ◌+◌, ◌-◌, ◌<◌, Bool, List, ◌∷◌, map, Result, Ok, Err, refl, sym, ap, ◌∙◌, arith, subst}
+use Rattle.std.proofs.Common.{◌≡◌, ℕ, suc, ◌+◌, ◌-◌, ◌<◌, List, ◌∷◌, map, Ok, Err, sym, ap, ◌∙◌, arith, subst}
 use Rattle.constraint_set.specs.Points.{LinearRow, LinearSystem}
-use Rattle.constraint_set.specs.Elimination.{Refusal, too_many, ◌>>=◌, eliminated, countdown}
+use Rattle.constraint_set.specs.Elimination.{too_many, ◌>>=◌, eliminated, countdown}
 use Rattle.constraint_set.specs.Reach.{emptiness, has_negative}
 use Rattle.projection.specs.Answers.{IsRefused}
 use Rattle.projection.specs.declared.fault.ReachFault.{ReachFault}

@@ -1,9 +1,9 @@
 -- The steps of loops over rows.
-use Rattle.std.proofs.Common.{◌≡◌, ℕ, zero, suc, ◌+◌, ◌/◌, ◌^◌, ◌<◌, ◌≤◌, Bool, true, false, cond, List, [], ◌∷◌, ◌++◌, length, drop, get_or, Option, Some, None, filter, ℤ, pos, negsuc, neg_ℤ, unsigned_abs, int_div, FitsSigned, arith, refl, sym, ap, ◌∙◌, add-one, append_assoc}
+use Rattle.std.proofs.Common.{◌≡◌, ℕ, zero, suc, ◌+◌, ◌/◌, ◌^◌, ◌<◌, ◌≤◌, Bool, true, false, cond, List, [], ◌∷◌, ◌++◌, drop, Some, ℤ, pos, negsuc, neg_ℤ, unsigned_abs, int_div, FitsSigned, arith, refl, sym, ap, ◌∙◌, add-one, append_assoc}
 use Rattle.std.specs.List.{slice_get}
 use Rattle.std.specs.Int.{w128}
 use Rattle.constraint_set.specs.Points.{LinearRow, coef}
-use Rattle.constraint_set.specs.Tidy.{is_idle, divisor, divided, reduced, added, merged}
+use Rattle.constraint_set.specs.Tidy.{is_idle, divisor, divided, reduced, merged}
 use Rattle.projection.specs.Sides.{is_on, on_side}
 use Rattle.projection.specs.declared.side.Side.{Side}
 

@@ -1,6 +1,5 @@
 -- The steps of the loop that mixes two rows.
-use Rattle.std.proofs.Common.{◌≡◌, ℕ, zero, suc, ◌+◌, ◌<◌, ◌≤◌, List, [], ◌∷◌, ◌++◌, length, drop, get_or, Option, Some, None, Result, Ok, Err, ℤ, pos, arith, refl, sym, ap, ◌∙◌, append_assoc, add-one, append-nil}
-use Rattle.std.proofs.lemmas.List as L
+use Rattle.std.proofs.Common.{◌≡◌, ℕ, zero, suc, ◌+◌, ◌<◌, ◌≤◌, List, [], ◌∷◌, ◌++◌, length, drop, get_or, Some, None, Result, Ok, Err, ℤ, pos, arith, refl, sym, ap, ◌∙◌, append_assoc, add-one, append-nil}
 use Rattle.num_row.specs.Ints.{combined}
 use Rattle.constraint_set.specs.Elimination.{Refusal, too_wide, mixed_by, or_wide, ◌>>=◌}
 use Rattle.projection.specs.Answers.{after}

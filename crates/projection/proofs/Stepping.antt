@@ -1,11 +1,11 @@
 -- The exits of a step, and of several.
-use Rattle.std.proofs.Common.{◌≡◌, ℕ, zero, suc, add-one, ◌+◌, ◌*◌, ◌<◌, ◌≤◌, Bool, true, false, cond, List, [], ◌∷◌, ◌++◌, length, get_or, drop, ltb-true, Result, Ok, Err, ℤ, pos, ◌<ℤ◌, nat_lt, refl, sym, ap, ◌∙◌, subst, arith}
+use Rattle.std.proofs.Common.{◌≡◌, ℕ, zero, suc, add-one, ◌+◌, ◌*◌, ◌<◌, ◌≤◌, Bool, true, false, cond, List, [], ◌∷◌, ◌++◌, length, get_or, drop, ltb-true, Result, Ok, Err, pos, ◌<ℤ◌, nat_lt, refl, sym, ap, ◌∙◌, subst, arith}
 use Rattle.std.proofs.lemmas.Bool.{lt-ltb}
 use Rattle.constraint_set.specs.Lists.{Each}
 use Rattle.constraint_set.specs.Points.{LinearRow, LinearSystem, coef, AreWide}
 use Rattle.constraint_set.specs.Tidy.{tidied}
-use Rattle.constraint_set.specs.Elimination.{Refusal, too_many, ◌>>=◌, raising, lowering, without, pairs_of, row_limit, row_count, step, step_by, steps, steps_by, eliminated, variable_limit}
-use Rattle.constraint_set.proofs.Steps.{Each-append, Each-weaken, Each-both, Raises, Lowers, part_raising, part_lowering, part_without}
+use Rattle.constraint_set.specs.Elimination.{Refusal, too_many, ◌>>=◌, raising, lowering, without, pairs_of, row_limit, row_count, step, steps, eliminated}
+use Rattle.constraint_set.proofs.Steps.{Each-append, Each-weaken, Raises, Lowers, part_raising, part_lowering, part_without}
 use Rattle.constraint_set.proofs.Pairs.{all_made}
 use Rattle.constraint_set.proofs.Eliminating.{over}
 use Rattle.projection.specs.Answers.{IsRefused, after}
@@ -25,6 +25,12 @@ module _ (k n : ℕ) (rows : List LinearRow) (within : k < n) (wide : AreWide n 
 
   pub raises : Each (λ p. pos 0 <ℤ coef k p) (raising k rows)
   raises = Each-weaken (λ r. Raises k r × (length r.coefs ≡ n)) (λ p. pos 0 <ℤ coef k p) (λ r h. h.0) (raising k rows) up_wide
+
+  pub low_in_range : Each (λ p. k < length p.coefs) (lowering k rows)
+  low_in_range = Each-weaken (λ r. Lowers k r × (length r.coefs ≡ n)) (λ p. k < length p.coefs) (λ r h. omega (arith, h.1)) (lowering k rows) down_wide
+
+  pub lowers : Each (λ p. coef k p <ℤ pos 0) (lowering k rows)
+  lowers = Each-weaken (λ r. Lowers k r × (length r.coefs ≡ n)) (λ p. coef k p <ℤ pos 0) (λ r h. h.0) (lowering k rows) down_wide
 
   pub same_width : Each (λ p. Each (λ r. length p.coefs ≡ length r.coefs) (lowering k rows)) (raising k rows)
   same_width =

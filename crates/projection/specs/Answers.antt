@@ -1,7 +1,6 @@
 -- Answers of calls that may be refused, against the answer that is wanted. Want of memory is free.
 use Rattle.std.specs.Prelude.{◌≡◌, List, ◌++◌, Result, Ok, Err}
-use Rattle.constraint_set.specs.Elimination.{Refusal, too_wide, too_many, ◌>>=◌}
-use Rattle.constraint_set.specs.Reach.{Reach, never, between}
+use Rattle.constraint_set.specs.Elimination.{Refusal, too_wide, too_many}
 use Rattle.projection.specs.declared.fault.ReachFault.{ReachFault}
 use Rattle.projection.specs.declared.fault.ReachFault.TheVariants.{Wide, Rows, Memory}
 

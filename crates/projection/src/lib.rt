@@ -8,6 +8,7 @@
 //! keyed by their coefficients. The crate stands on `constraint_set` and `num_row`.
 #![tactic(auto)]
 
+mod bounds;
 mod eliminating;
 mod fault;
 mod pair;
@@ -15,7 +16,8 @@ mod reaching;
 mod side;
 mod steps;
 mod tidy;
+mod value;
 
 pub use eliminating::eliminate;
-pub use reaching::{Reached, is_empty};
 pub use fault::ReachFault;
+pub use reaching::{Reached, is_empty, reach};

@@ -1,6 +1,7 @@
 //! The rows of a side: those in which a variable has a positive, a negative or no coefficient.
 
 ghost use Rattle.std.specs.Prelude.{◌≡◌, ◌<◌, [], ◌∷◌, ◌++◌, length, IfOk, OnOk};
+ghost use Rattle.constraint_set.specs.Points.{AreWide};
 ghost use Rattle.projection.specs.Sides.{is_on, on_side};
 
 use constraint_set::{Row, Rows};
@@ -53,7 +54,8 @@ pub(crate) fn rows_on(
     rows: &Rows,
 ) -> Result<Vec<Row>, AllocError>
     requires { k < rows.now.vars }
-    ensures { IfOk result (λ out. out.items ≡ on_side side k rows.now.rows) }
+    ensures rows { IfOk result (λ out. out.items ≡ on_side side k rows.now.rows) }
+    ensures wide { AreWide rows.now.vars rows.now.rows }
 {
     let mut out = Vec::new(alloc);
     for at in 0..rows.count() {

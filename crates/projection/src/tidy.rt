@@ -71,7 +71,10 @@ fn quotients(alloc: Global, numbers: &[i128], divisor: u128) -> Result<Vec<i128>
     requires { 0 < divisor }
     ensures { IfOk result (λ out. out.items ≡ map (λ x. int_div x (pos divisor)) numbers.now) }
 {
-    numbers.iter().map(|number| quotient(*number, divisor)).collect(alloc)
+    numbers
+        .iter()
+        .map(|number| quotient(*number, divisor))
+        .collect(alloc)
 }
 
 /// The row divided by a number.
@@ -80,7 +83,10 @@ fn divide(alloc: Global, row: &Row, divisor: u128) -> Result<Row, AllocError>
     ensures { IfOk result (λ out. out ≡ divided divisor row.now) }
 {
     let coefs = quotients(alloc, &row.coefs, divisor)?;
-    Ok(Row { coefs, constant: quotient(row.constant, divisor) })
+    Ok(Row {
+        coefs,
+        constant: quotient(row.constant, divisor),
+    })
 }
 
 /// Adds a row under the rules to rows that are.

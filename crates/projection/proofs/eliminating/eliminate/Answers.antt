@@ -1,4 +1,4 @@
-use Rattle.std.proofs.Common.{rules, arith, ◌≡◌, ◌∙◌, sym, ap, subst, pos}
+use Rattle.std.proofs.Common.{◌≡◌, ◌∙◌, sym, subst, pos}
 use Rattle.constraint_set.specs.Lists.{Each}
 use Rattle.constraint_set.specs.Points.{LinearSystem, coef}
 use Rattle.constraint_set.specs.Projection.{Projects, Lifts}

@@ -1,4 +1,4 @@
-use Rattle.std.proofs.Common.{rules, arith, to_z-of_z, ◌≡◌, ◌+◌, ◌++◌, ◌∷◌, [], ◌∙◌, sym, ap, drop, append_assoc}
+use Rattle.std.proofs.Common.{rules, to_z-of_z, ◌≡◌, ◌+◌, ◌++◌, ◌∷◌, [], ◌∙◌, sym, ap, drop, append_assoc}
 use Rattle.constraint_set.specs.Points.{LinearRow, LinearSystem}
 use Rattle.projection.proofs.Loops.{from_place}
 use Rattle.projection.proofs.eliminating.listed.Goals as goal

@@ -1,10 +1,7 @@
-use Rattle.std.proofs.Common.{rules, arith, ◌≡◌, ◌+◌, ◌++◌, ◌∷◌, [], Some, None, get_or, pos, FitsSigned, sym, ap, ◌∙◌, drop}
-use Rattle.std.proofs.lemmas.Grind.{common_steps}
+use Rattle.std.proofs.Common.{rules, arith, ◌≡◌, Some, None, get_or, pos, FitsSigned, ◌∙◌}
 use Rattle.std.proofs.lemmas.Int.{to_z-of_z}
 use Rattle.std.specs.Int.{w128}
 use Rattle.num_row.specs.Ints.{combined}
-use Rattle.constraint_set.specs.Elimination.{mixed_by}
-use Rattle.projection.specs.Answers.{after}
 use Rattle.projection.proofs.Mixes.{turn, stop, ended}
 use Rattle.projection.proofs.pair.mix.Goals as goal
 

@@ -1,4 +1,4 @@
-use Rattle.std.proofs.Common.{◌≡◌, drop, length}
+use Rattle.std.proofs.Common.{◌≡◌, drop}
 use Rattle.constraint_set.specs.Elimination.{mixed_by}
 use Rattle.projection.specs.Answers.{after}
 use Rattle.projection.proofs.pair.mix.Given as goal

@@ -1,12 +1,10 @@
-use Rattle.std.proofs.Common.{rules, arith, ◌≡◌, pos, ◌/◌, Ok, Err, Some, None, ℤ, FitsSigned}
+use Rattle.std.proofs.Common.{rules, ◌≡◌, Ok, Some, None, FitsSigned}
 use Rattle.std.proofs.lemmas.Int.{to_z-of_z}
 use Rattle.std.proofs.lemmas.Result.{err_from_is_err_and}
-use Rattle.std.specs.Prelude.{unsigned_abs, Vec}
 use Rattle.std.specs.Int.{w128}
-use Rattle.num_row.specs.Ints.{narrowed, combined}
-use Rattle.constraint_set.specs.Points.{coef}
-use Rattle.constraint_set.specs.Elimination.{or_wide, mixed_by, pair_of}
-use Rattle.projection.specs.Answers.{Meets, IsRefused}
+use Rattle.num_row.specs.Ints.{combined}
+use Rattle.constraint_set.specs.Elimination.{mixed_by}
+use Rattle.projection.specs.Answers.{IsRefused}
 use Rattle.projection.proofs.Chains.{no_first, no_second, no_coefs, no_constant, whole_pair, shared_positive}
 use Rattle.projection.proofs.pair.pair.Goals as goal
 

@@ -1,4 +1,4 @@
-use Rattle.std.proofs.Common.{rules, arith, to_z-of_z, ◌≡◌, ◌||◌, ◌+◌, ◌∙◌, sym, ap, drop, true, false, int_lt, pos}
+use Rattle.std.proofs.Common.{rules, to_z-of_z, ◌≡◌, ◌||◌, ◌+◌, ◌∙◌, sym, ap, drop, true, false, int_lt, pos}
 use Rattle.constraint_set.specs.Points.{LinearRow}
 use Rattle.constraint_set.specs.Reach.{has_negative}
 use Rattle.projection.proofs.Loops.{from_place}

@@ -1,4 +1,4 @@
-use Rattle.std.proofs.Common.{rules, arith, ◌≡◌, ◌+◌, ◌-◌, ◌++◌, ◌∷◌, [], ◌∙◌, sym, ap, append_assoc}
+use Rattle.std.proofs.Common.{rules, ◌≡◌, ◌+◌, ◌-◌, ◌++◌, ◌∷◌, [], ◌∙◌, sym, ap, append_assoc}
 use Rattle.constraint_set.specs.Elimination.{countdown}
 use Rattle.projection.proofs.Counting.{one_less}
 use Rattle.projection.proofs.reaching.numbers_below.Goals as goal

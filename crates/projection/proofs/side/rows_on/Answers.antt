@@ -1,5 +1,4 @@
-use Rattle.std.proofs.Common.{arith, rules, to_z-of_z, ◌≡◌, ◌+◌, ◌++◌, [], ◌∷◌, Some, ◌∙◌, sym, ap, drop, FitsSigned}
-use Rattle.std.specs.Int.{w128}
+use Rattle.std.proofs.Common.{rules, to_z-of_z, ◌≡◌, ◌+◌, ◌++◌, [], ◌∷◌, Some, ◌∙◌, sym, ap, drop}
 use Rattle.std.specs.List.{slice_get}
 use Rattle.constraint_set.specs.Points.{LinearRow}
 use Rattle.projection.specs.Sides.{on_side}

@@ -1,7 +1,7 @@
-use Rattle.std.proofs.Common.{rules, arith, ◌≡◌, ◌<◌, ◌≤◌, ◌∙◌, sym, ap, subst, Result, List}
+use Rattle.std.proofs.Common.{arith, ◌≤◌, ◌∙◌, sym, ap, subst, Result, List}
 use Rattle.constraint_set.specs.Points.{LinearSystem, LinearRow}
 use Rattle.constraint_set.specs.Tidy.{tidied}
-use Rattle.constraint_set.specs.Elimination.{Refusal, eliminated, steps}
+use Rattle.constraint_set.specs.Elimination.{Refusal}
 use Rattle.projection.specs.Answers.{Meets}
 use Rattle.projection.proofs.Stepping.{eliminated_over, eliminated_runs}
 use Rattle.projection.proofs.steps.project.Goals as goal
