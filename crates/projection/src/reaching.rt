@@ -18,6 +18,7 @@ use std::alloc::{AllocError, Global};
 ///
 /// The least is the least integer k for which some scaled point has `form <= k`, the greatest the greatest integer k for
 /// which some scaled point has `form >= k`.
+#[derive(Clone, Copy)]
 pub enum Reached {
     Never,
     Between { least: i128, greatest: i128 },
