@@ -101,10 +101,10 @@ static void sparse(rows *s) {
     int n = s->vars;
     unsigned long long seed = 12345;
     for (int i = 0; i < n; i++) { PUT(s, 0, {i, 1}); PUT(s, 50, {i, -1}); }
-    for (int i = 0; i < n / 2; i++) {
+    for (int i = 0; i < n; i++) {
         seed = (seed * 1103515245 + 12345) % 2147483648ULL; num a = (num)(seed / 65536 % 5) - 2;
         seed = (seed * 1103515245 + 12345) % 2147483648ULL; num b = (num)(seed / 65536 % 5) - 2;
-        PUT(s, 7, {2 * i, a}, {(2 * i + 1) % n, b}, {(2 * i + 3) % n, 1});
+        PUT(s, 7, {i, a}, {(i + 1) % n, b}, {(i + 3) % n, 1});
     }
 }
 
