@@ -6,12 +6,13 @@ use Rattle.std.specs.Cmp.Rules.{signed_items}
 use Rattle.std.proofs.lemmas.Nat.Gcd.{mod-eq-zero_of_dvd}
 use Rattle.std.proofs.lemmas.List.{length-map}
 use Rattle.num_row.specs.Divisors.{gcd_of}
-use Rattle.num_row.proofs.Gcds.{gcd_of_is}
+use Rattle.num_row.proofs.Gcds.{gcd_of_is, gcd_of_unique}
 use Rattle.num_row.proofs.Ring.{Var, ◌⊕◌, ◌⊗◌, Neg, ring, mul_nonneg}
 use Rattle.num_row.proofs.Order.{mul_cancel_right, mul_le_right}
 use Rattle.constraint_set.specs.Lists.{Each}
 use Rattle.constraint_set.specs.Points.{LinearRow, dot, value_at, HoldsAtPoint, IsPoint, AreWide}
 use Rattle.constraint_set.specs.Tidy.{all_zero, is_idle, divisor, divisor_from, divided, reduced, same_coefs, added, merged, tidied}
+use Rattle.std.proofs.Math.Nat.{one-dvd}
 use Rattle.std.proofs.lemmas.Nat.Gcd.{dvd_refl, dvd_trans}
 use Rattle.std.proofs.lemmas.Bool.{and_from, and_parts}
 use Rattle.std.proofs.lemmas.Bool.Decides.{Decides-int_eq}
@@ -197,3 +198,23 @@ module _ (P : List ℤ → Type 0) (closed : (g : ℕ) (xs : List ℤ) → P xs 
 
 pub tidied_wide : (n : ℕ) (rs : List LinearRow) → AreWide n rs → AreWide n (tidied rs)
 tidied_wide n rs h = tidied_each (λ xs. length xs ≡ n) (λ g xs e. length-map xs (λ x. int_div x (pos g)) ∙ e) rs h
+
+-- ---- the divisor 1
+-- once it is 1, a common divisor stays so
+pub one_divides : (xs : List ℤ) → divisor_from 1 xs ≡ 1
+one_divides [] = refl
+one_divides (x ∷ xs) = ap (λ g. divisor_from g xs) (sym (gcd_of_unique 1 (unsigned_abs x) 1 (dvd_refl 1, one-dvd (unsigned_abs x), λ d h k. h))) ∙ one_divides xs
+
+by_one : (x : ℤ) → int_div x (pos 1) ≡ x
+by_one (pos n) = ap pos (omega arith)
+by_one (negsuc n) = ap (λ m. neg_ℤ (pos m)) (let e : suc n / 1 ≡ suc n = omega arith in e)
+
+all_by_one : (xs : List ℤ) → map (λ x. int_div x (pos 1)) xs ≡ xs
+all_by_one [] = refl
+all_by_one (x ∷ xs) = ap (λ y. y ∷ map (λ x. int_div x (pos 1)) xs) (by_one x) ∙ ap (λ ys. x ∷ ys) (all_by_one xs)
+
+-- a row divided by 1 is the row
+pub divided_by_one : (r : LinearRow) → divided 1 r ≡ r
+divided_by_one r =
+    let row_of : List ℤ → ℤ → LinearRow = λ xs c. record { coefs = xs; constant = c } in
+    ap (λ xs. row_of xs (int_div r.constant (pos 1))) (all_by_one r.coefs) ∙ ap (row_of r.coefs) (by_one r.constant)

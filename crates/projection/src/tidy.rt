@@ -56,11 +56,15 @@ fn divisor_of(row: &Row) -> u128
 }
 
 /// The greatest common divisor of a first number and the sizes of a list.
+#[tactic(auto, using(constraint_set::proofs::Tidying::one_divides))]
 fn common_divisor(first: u128, numbers: &[i128]) -> u128
     ensures { result ≡ divisor_from first numbers.now }
 {
     let mut shared = first;
     for number in numbers {
+        if shared == 1 {
+            return 1;
+        }
         shared = gcd(shared, number.unsigned_abs());
     }
     shared
@@ -78,10 +82,14 @@ fn quotients(alloc: Global, numbers: &[i128], divisor: u128) -> Result<Vec<i128>
 }
 
 /// The row divided by a number.
+#[tactic(auto, using(constraint_set::proofs::Tidying::divided_by_one))]
 fn divide(alloc: Global, row: &Row, divisor: u128) -> Result<Row, AllocError>
     requires { 0 < divisor }
     ensures { IfOk result (λ out. out ≡ divided divisor row.now) }
 {
+    if divisor == 1 {
+        return row.copy(alloc);
+    }
     let coefs = quotients(alloc, &row.coefs, divisor)?;
     Ok(Row {
         coefs,
