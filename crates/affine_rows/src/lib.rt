@@ -8,4 +8,6 @@ mod operations;
 #[cfg(test)]
 mod streams;
 #[cfg(test)]
+mod systems;
+#[cfg(test)]
 mod texts;
