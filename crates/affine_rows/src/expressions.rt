@@ -1,0 +1,157 @@
+// Values, intervals and linear forms of affine expressions.
+ghost use Rattle.std.specs.Prelude.{◌≡◌, IfOk, pos, negsuc, ◌∷◌, []};
+ghost use Rattle.affine_expr.specs.declared.expr.Expr.TheVariants as e;
+
+use affine_expr::{Expr, Interval, LinearFault};
+use sqlite_items::Boxed;
+use std::alloc::{AllocError, Global};
+use std::test::Fail;
+
+/// `(d0 - 7) mod 4`
+fn less_seven_mod_four(alloc: Global) -> Result<Expr, AllocError>
+    ensures { IfOk result (λ x. x ≡ e.Mod (e.Sub (e.Dim 0) (e.Const (pos 7))) (e.Const (pos 4))) }
+{
+    let difference = Expr::Sub(
+        Boxed::new(alloc, Expr::Dim(0))?,
+        Boxed::new(alloc, Expr::Const(7))?,
+    );
+    Ok(Expr::Mod(
+        Boxed::new(alloc, difference)?,
+        Boxed::new(alloc, Expr::Const(4))?,
+    ))
+}
+
+/// `d0 ceildiv 3`
+fn thirds(alloc: Global) -> Result<Expr, AllocError>
+    ensures { IfOk result (λ x. x ≡ e.CeilDiv (e.Dim 0) (e.Const (pos 3))) }
+{
+    Ok(Expr::CeilDiv(
+        Boxed::new(alloc, Expr::Dim(0))?,
+        Boxed::new(alloc, Expr::Const(3))?,
+    ))
+}
+
+/// `-7 floordiv 4`, `-7 ceildiv 4` and `-7 mod 4`
+fn quotients_of_minus_seven(alloc: Global) -> Result<[Expr; 3], AllocError>
+    ensures { IfOk result (λ x. x ≡ e.FloorDiv (e.Const (negsuc 6)) (e.Const (pos 4)) ∷ e.CeilDiv (e.Const (negsuc 6)) (e.Const (pos 4)) ∷ e.Mod (e.Const (negsuc 6)) (e.Const (pos 4)) ∷ []) }
+{
+    let down = Expr::FloorDiv(
+        Boxed::new(alloc, Expr::Const(-7))?,
+        Boxed::new(alloc, Expr::Const(4))?,
+    );
+    let up = Expr::CeilDiv(
+        Boxed::new(alloc, Expr::Const(-7))?,
+        Boxed::new(alloc, Expr::Const(4))?,
+    );
+    let rest = Expr::Mod(
+        Boxed::new(alloc, Expr::Const(-7))?,
+        Boxed::new(alloc, Expr::Const(4))?,
+    );
+    Ok([down, up, rest])
+}
+
+/// `((d0 * 4611686018427387904) * 4611686018427387904) * 8`
+fn past_128_bits(alloc: Global) -> Result<Expr, AllocError>
+    ensures { IfOk result (λ x. x ≡ e.Mul (e.Mul (e.Mul (e.Dim 0) (e.Const (pos 4611686018427387904))) (e.Const (pos 4611686018427387904))) (e.Const (pos 8))) }
+{
+    let once = Expr::Mul(
+        Boxed::new(alloc, Expr::Dim(0))?,
+        Boxed::new(alloc, Expr::Const(4611686018427387904))?,
+    );
+    let twice = Expr::Mul(
+        Boxed::new(alloc, once)?,
+        Boxed::new(alloc, Expr::Const(4611686018427387904))?,
+    );
+    Ok(Expr::Mul(
+        Boxed::new(alloc, twice)?,
+        Boxed::new(alloc, Expr::Const(8))?,
+    ))
+}
+
+const WIDE: Interval = Interval {
+    least: -5,
+    greatest: 9,
+};
+
+#[test]
+#[tactic(auto, unfolding(affine_expr::specs::Pure::is_pure, affine_expr::specs::Pure::has_leaves_below))]
+fn intervals_of_expressions(rt: HostRuntime) -> Result<(), Fail> {
+    let remainder = less_seven_mod_four(rt.alloc())?;
+    assert!(rt;
+        matches!(
+            remainder.interval(&[WIDE], &[]),
+            Some(Interval {
+                least: 0,
+                greatest: 3
+            })
+        )
+    );
+    let quotient = thirds(rt.alloc())?;
+    assert!(rt;
+        matches!(
+            quotient.interval(&[WIDE], &[]),
+            Some(Interval {
+                least: -1,
+                greatest: 3
+            })
+        )
+    );
+    let edge = Expr::Const(4611686018427387904);
+    assert!(rt; edge.interval(&[], &[]).is_some());
+    let past = Expr::Const(4611686018427387905);
+    assert!(rt; past.interval(&[], &[]).is_none());
+    Ok(())
+}
+
+#[test]
+#[tactic(auto, unfolding(affine_expr::specs::Pure::is_pure, affine_expr::specs::Pure::has_leaves_below, affine_expr::specs::Pure::has_small_numbers))]
+fn linear_forms_of_expressions(rt: HostRuntime) -> Result<(), Fail> {
+    let alloc = rt.alloc();
+    let remainder = less_seven_mod_four(alloc)?;
+    let Ok(form) = remainder.linear(alloc, 1, 0) else {
+        panic!(rt; "no form");
+    };
+    assert!(rt; form.coefs.as_slice() == [1, -4].as_slice() && form.constant == -7);
+    let [local] = form.locals.as_slice() else {
+        panic!(rt; "one local");
+    };
+    assert!(rt;
+        local.coefs.as_slice() == [1].as_slice() && local.constant == -7 && local.divisor == 4
+    );
+    let quotient = thirds(alloc)?;
+    let Ok(form) = quotient.linear(alloc, 1, 0) else {
+        panic!(rt; "no form");
+    };
+    let [local] = form.locals.as_slice() else {
+        panic!(rt; "one local");
+    };
+    assert!(rt;
+        local.coefs.as_slice() == [1].as_slice() && local.constant == 2 && local.divisor == 3
+    );
+    let wide = past_128_bits(alloc)?;
+    assert!(rt; matches!(wide.linear(alloc, 1, 0), Err(LinearFault::Wide)));
+    Ok(())
+}
+
+#[test]
+#[tactic(auto, using(crate::proofs::Reach::remainder_at, crate::proofs::Reach::thirds_at))]
+fn values_of_expressions(rt: HostRuntime) -> Result<(), Fail> {
+    let remainder = less_seven_mod_four(rt.alloc())?;
+    assert_eq!(rt; remainder.eval(&[0], &[]), 1);
+    assert_eq!(rt; remainder.eval(&[7], &[]), 0);
+    assert_eq!(rt; remainder.eval(&[10], &[]), 3);
+    let quotient = thirds(rt.alloc())?;
+    assert_eq!(rt; quotient.eval(&[-4], &[]), -1);
+    assert_eq!(rt; quotient.eval(&[4], &[]), 2);
+    Ok(())
+}
+
+#[test]
+#[tactic(auto, using(crate::proofs::Reach::quotients))]
+fn quotients_of_negatives(rt: HostRuntime) -> Result<(), Fail> {
+    let [down, up, rest] = quotients_of_minus_seven(rt.alloc())?;
+    assert_eq!(rt; down.eval(&[], &[]), -2);
+    assert_eq!(rt; up.eval(&[], &[]), -1);
+    assert_eq!(rt; rest.eval(&[], &[]), 1);
+    Ok(())
+}
