@@ -1,5 +1,6 @@
 -- The plan of the first form: which memrefs are staged, in which order, and the names that their copies take.
-use Rattle.std.specs.Prelude.{ℕ, ◌+◌, ◌-◌, ◌*◌, ◌≤◌, min, ℤ, ◌-ℤ◌, Bool, true, false, not, ◌||◌, List, [], ◌∷◌, ◌++◌, length, take, fold, sum_by, Option, Some, None, nat_eq, if◌then◌else◌, codes, decimal, bytes_eq}
+use Rattle.std.specs.Prelude.{ℕ, ◌+◌, ◌-◌, ◌*◌, ◌≤◌, min, ℤ, ◌-ℤ◌, Bool, true, false, not, ◌||◌, List, [], ◌∷◌, ◌++◌, length, fold, sum_by, Option, Some, None, nat_eq, if◌then◌else◌, codes, decimal}
+use Rattle.std.specs.List.{starts_with}
 use Rattle.affine_ast.specs.declared.name.Name.{Name}
 use Rattle.affine_ast.specs.declared.image.Image.{Image}
 use Rattle.affine_ast.specs.declared.module.Arg.{Arg}
@@ -115,7 +116,7 @@ of_text n = not n.made
 
 -- names that a text may have where the template's are told apart by their first letters
 abbrev pub other_letters : Name → Bool
-other_letters n = not (bytes_eq (take 4 n.text) (codes "copy"))
+other_letters n = not (starts_with nat_eq n.text (codes "copy"))
 
 abbrev pub arg_elements : Arg → ℕ
 arg_elements arg = elements arg.kind

@@ -10,13 +10,15 @@ use Rattle.copy_emit.specs.Law.{staged, Agrees}
 use Rattle.copy_emit.specs.FirstPlan.{first_plan, first_staged}
 use Rattle.first_path.specs.declared.stage.Staged.{Staged}
 use Rattle.first_path.specs.Plan.{planned_of}
-use Rattle.first_path.specs.Form.{IsFirst}
+use Rattle.first_path.specs.Form.{IsOfFirstForm}
+use Rattle.first_path.specs.Valid.{IsValidFirst}
 
--- the module is of the first form, and the staged module is the template's for its loop and for the plan of the first
--- form, with made names; the placements are the plan's in its order, and the line is the loop's
+-- the module is of the first form and valid, and the staged module is the template's for its loop and for the plan of the
+-- first form, with made names; the placements are the plan's in its order, and the line is the loop's
 pub record IsStagedBy (input : Module) (output : Staged) : Type 0 where
   pub looped : FirstLoop
-  pub first : IsFirst input looped
+  pub form : IsOfFirstForm input looped
+  pub valid : IsValidFirst input looped
   pub made : output.module ≡ staged input (first_staged true looped) looped
   pub placements : map planned_of output.placements ≡ first_plan looped
   pub line : output.line ≡ looped.line

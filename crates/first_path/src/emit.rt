@@ -141,12 +141,7 @@ fn load_slow(alloc: Global, copied: &Copied, value: &Name, turn: &Name) -> Resul
 }
 
 /// A store to the window at a turn of its copy loop.
-fn store_slow(
-    alloc: Global,
-    copied: &Copied,
-    value: &Name,
-    turn: &Name,
-) -> Result<What, AllocError>
+fn store_slow(alloc: Global, copied: &Copied, value: &Name, turn: &Name) -> Result<What, AllocError>
     ensures { IfOk result (λ what. what ≡ What.Store value.now copied.now.memref (behind_place copied.now.place turn.now) (slow_type copied.now.size)) }
 {
     Ok(What::Store {
@@ -170,12 +165,7 @@ fn load_fast(alloc: Global, copied: &Copied, value: &Name, turn: &Name) -> Resul
 }
 
 /// A store to the fast memref at a turn of its copy loop.
-fn store_fast(
-    alloc: Global,
-    copied: &Copied,
-    value: &Name,
-    turn: &Name,
-) -> Result<What, AllocError>
+fn store_fast(alloc: Global, copied: &Copied, value: &Name, turn: &Name) -> Result<What, AllocError>
     ensures { IfOk result (λ what. what ≡ What.Store value.now copied.now.fast (in_half 0 (at_value turn.now)) (fast_type (slow_type copied.now.extent))) }
 {
     Ok(What::Store {

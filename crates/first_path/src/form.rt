@@ -1,164 +1,101 @@
 // The first form.
-ghost use Rattle.std.specs.Prelude.{◌≡◌, [], ◌∷◌, ◌<◌, ◌≤◌, length, true, All, sum_by, IsTrue, IfSome};
+ghost use Rattle.std.specs.Prelude.{◌≡◌, ◌↔◌, [], ◌∷◌, ◌≤◌, ℕ, ℤ, true, All, sum_by, not, IsTrue, IfSome, IfNone};
+ghost use Rattle.affine_ast.specs.declared.stmt.Stmt as stmt;
 ghost use Rattle.copy_emit.specs.Template.{FirstLoop, slow_type, at_value, input_body};
-ghost use Rattle.copy_emit.specs.FirstForm.{arg_types, IsFirstArg, IsFirstAccess, IsFirstResult, IsFirstWhat, IsFirstStmt};
-ghost use Rattle.copy_emit.specs.FirstPlan.{of_text, arg_elements};
-ghost use Rattle.first_path.specs.Form.{loop_of, IsFirst};
+ghost use Rattle.copy_emit.specs.FirstForm.{IsFirstArg};
+ghost use Rattle.copy_emit.specs.FirstPlan.{of_text, other_letters, arg_elements};
+ghost use Rattle.first_path.specs.Form.{loop_of, plain_name, HasFirstForm, AreInForm, IsOfFirstForm};
 
+use crate::place::Turns;
 use affine_ast::{
     Access, Arg, ArgKind, Bound, Element, MemrefType, Module, Name, Scalar, Stmt, What,
 };
-use crate::place::Turns;
 use affine_expr::Expr;
 use int_ops::Op;
 
 /// The most elements of all arguments together.
 const MOST_ELEMENTS: u64 = 262_144;
 
-/// The most memref arguments.
-const MOST_ARGUMENTS: usize = 64;
-
-/// The most statements of a module, its loop and its `return` among them.
-const MOST_STATEMENTS: usize = 4_096;
-
-/// The greatest size of a number that a bound may have: 2^62.
-const MOST_BOUND: i64 = 4_611_686_018_427_387_904;
-
 fn is_i32(ty: Scalar) -> bool
-    ensures { IsTrue result → ty ≡ Scalar.Int Element.I32 }
+    ensures { IsTrue result ↔ (ty ≡ Scalar.Int Element.I32) }
 {
     matches!(ty, Scalar::Int(Element::I32))
 }
 
-/// The size of a vector of `i32` in slow memory, and 0 for every other type.
-pub(crate) fn vector_size(ty: &MemrefType) -> u32
-    ensures { 0 < result → ty.now ≡ slow_type result }
+fn is_addition(op: Op) -> bool
+    ensures { IsTrue result ↔ (op ≡ Op.Add) }
+{
+    matches!(op, Op::Add)
+}
+
+/// The size of a vector of `i32` in slow memory.
+pub(crate) fn vector_size(ty: &MemrefType) -> Option<u32>
+    ensures found { IfSome result (λ size. ty.now ≡ slow_type size) }
+    ensures missed { IfNone result ((size : ℕ) → ty.now ≡ slow_type size → ⊥) }
 {
     match ty.sizes.as_slice() {
-        [size] if ty.space == 0 && matches!(ty.element, Element::I32) => *size,
-        _ => 0,
-    }
-}
-
-/// The size of an argument that is a vector of `i32`, and 0 for every other one.
-pub(crate) fn argument_size(arg: &Arg) -> u32
-    ensures { 0 < result → arg.now.kind ≡ ArgKind.Memref (slow_type result) }
-{
-    match &arg.kind {
-        ArgKind::Memref(ty) => vector_size(ty),
-        ArgKind::Index(_) => 0,
-    }
-}
-
-/// The size of the vector that a name is an argument of, and 0 for every other name.
-pub(crate) fn size_of(args: &[Arg], name: &Name) -> u32
-    ensures { 0 < result → arg_types args.now name.now ≡ Some (slow_type result) }
-{
-    let mut size = 0;
-    for arg in args {
-        if arg.name.is(name) {
-            size = argument_size(arg);
-        }
-    }
-    size
-}
-
-/// The argument of a name, where there is one.
-pub(crate) fn argument_of(args: &[Arg], name: &Name) -> Option<usize> {
-    args.iter().position(|arg| arg.name.is(name))
-}
-
-/// Whether a name is one of the text, and not of a template.
-pub(crate) fn is_own(name: &Name) -> bool
-    ensures { result ≡ of_text name.now }
-{
-    !name.made
-}
-
-/// Whether the prefix of made names begins this one.
-fn begins_as_made(name: &Name) -> bool {
-    name.text.as_str().starts_with("copy")
-}
-
-/// The size of an argument that is a vector of a name that no made name can be, and 0 for every other one.
-#[tactic(auto, using(crate::proofs::Forms::is_first_arg, crate::proofs::Forms::elements_of))]
-fn named_size(arg: &Arg) -> u32
-    ensures vector { 0 < result → IsFirstArg of_text arg.now }
-    ensures elements { 0 < result → arg_elements arg.now ≡ result }
-{
-    if !is_own(&arg.name) || begins_as_made(&arg.name) {
-        return 0;
-    }
-    argument_size(arg)
-}
-
-/// Whether every argument is a vector, of a name of its own that no made name can be, and all are within the limits.
-fn are_vectors(args: &[Arg]) -> bool
-    ensures vectors { IsTrue result → All (IsFirstArg of_text) args.now }
-    ensures elements { IsTrue result → sum_by arg_elements args.now ≤ 262144 }
-{
-    let mut elements: u64 = 0;
-    for (place, arg) in args.iter().enumerate() {
-        let size = named_size(arg);
-        elements += size as u64;
-        if size == 0 || MOST_ELEMENTS < elements {
-            return false;
-        }
-        if argument_of(&args[..place], &arg.name).is_some() {
-            return false;
-        }
-    }
-    args.len() <= MOST_ARGUMENTS
-}
-
-/// The name that a statement of the loop's body defines.
-fn defined(what: &What) -> Option<&Name> {
-    match what {
-        What::Load { result, .. } => Some(result),
-        What::Constant { result, .. } => Some(result),
-        What::Binary { result, .. } => Some(result),
+        [size] if ty.space == 0 && matches!(ty.element, Element::I32) => Some(*size),
         _ => None,
     }
 }
 
-/// Whether one of the statements defines the name.
-fn defines(stmts: &[Stmt], name: &Name) -> bool {
-    stmts.iter().any(|stmt| match defined(&stmt.what) {
-        Some(result) => result.is(name),
-        None => false,
-    })
-}
-
-/// What is in scope at a statement of the body.
-#[derive(Clone, Copy)]
-struct Scope<'a> {
-    args: &'a [Arg],
-    var: &'a Name,
-    before: &'a [Stmt],
-}
-
-/// Whether a name may be defined here: it isn't in scope, and no made name can be it.
-#[tactic(auto, using(crate::proofs::Plans::different))]
-fn is_fresh(scope: Scope<'_>, name: &Name) -> bool
-    ensures { IsTrue result → IsFirstResult of_text (arg_types scope.entry.args.now) scope.entry.var.now name.now }
+/// The size of an argument that is a vector of `i32`.
+#[tactic(auto, using(crate::proofs::Forms::no_memref))]
+pub(crate) fn argument_size(arg: &Arg) -> Option<u32>
+    ensures found { IfSome result (λ size. arg.now.kind ≡ ArgKind.Memref (slow_type size)) }
+    ensures missed { IfNone result ((size : ℕ) → arg.now.kind ≡ ArgKind.Memref (slow_type size) → ⊥) }
 {
-    is_own(name)
-        && !begins_as_made(name)
-        && argument_of(scope.args, name).is_none()
-        && !name.is(scope.var)
-        && !defines(scope.before, name)
+    match &arg.kind {
+        ArgKind::Memref(ty) => vector_size(ty),
+        ArgKind::Index(_) => None,
+    }
 }
 
-/// Whether a name is of a value that a statement before defines.
-fn is_known(scope: Scope<'_>, name: &Name) -> bool
-    ensures { IsTrue result → of_text name.now ≡ true }
+/// Whether the letters of made names begin this one.
+fn begins_as_made(name: &Name) -> bool
+    ensures { result ≡ not (other_letters name.now) }
 {
-    is_own(name) && defines(scope.before, name)
+    name.text.as_str().as_bytes().starts_with(b"copy")
+}
+
+/// Whether a name is one of a text that no made name can be.
+fn is_plain_name(name: &Name) -> bool
+    ensures { result ≡ plain_name name.now }
+{
+    !name.made && !begins_as_made(name)
+}
+
+/// The size of an argument of the first form.
+fn size_in_form(arg: &Arg) -> Option<u32>
+    ensures found { IfSome result (λ size. IsFirstArg plain_name arg.now × (arg_elements arg.now ≡ size)) }
+    ensures missed { IfNone result (IsFirstArg plain_name arg.now → ⊥) }
+{
+    if !is_plain_name(&arg.name) {
+        return None;
+    }
+    argument_size(arg)
+}
+
+/// Whether all arguments are vectors of `i32` with plain names, of 262,144 elements at most together.
+fn are_vectors(args: &[Arg]) -> bool
+    ensures { IsTrue result ↔ (All (IsFirstArg plain_name) args.now × (sum_by arg_elements args.now ≤ 262144)) }
+{
+    let mut elements: u64 = 0;
+    for arg in args {
+        let Some(size) = size_in_form(arg) else {
+            return false;
+        };
+        elements += size as u64;
+        if MOST_ELEMENTS < elements {
+            return false;
+        }
+    }
+    true
 }
 
 /// Whether the only operand is this name.
 fn is_operand(operands: &[Name], var: &Name) -> bool
-    ensures { IsTrue result → operands.now ≡ var.now ∷ [] }
+    ensures { IsTrue result ↔ (operands.now ≡ var.now ∷ []) }
 {
     match operands {
         [operand] => operand.is(var),
@@ -168,7 +105,7 @@ fn is_operand(operands: &[Name], var: &Name) -> bool
 
 /// Whether the only result is dimension 0.
 fn is_dimension(results: &[Expr]) -> bool
-    ensures { IsTrue result → results.now ≡ Expr.Dim 0 ∷ [] }
+    ensures { IsTrue result ↔ (results.now ≡ Expr.Dim 0 ∷ []) }
 {
     match results {
         [Expr::Dim(number)] => *number == 0,
@@ -178,7 +115,7 @@ fn is_dimension(results: &[Expr]) -> bool
 
 /// Whether the subscript is the loop's variable alone.
 fn is_at_turn(var: &Name, at: &Access) -> bool
-    ensures { IsTrue result → at.now ≡ at_value var.now }
+    ensures { IsTrue result ↔ (at.now ≡ at_value var.now) }
 {
     at.map.dims == 1
         && at.map.syms == 0
@@ -186,46 +123,24 @@ fn is_at_turn(var: &Name, at: &Access) -> bool
         && is_dimension(at.map.results.as_slice())
 }
 
-/// Whether a memref is an argument of the type that the access writes, at the loop's turn.
-#[tactic(auto, using(crate::proofs::Forms::is_first_access))]
-fn is_vector_access(scope: Scope<'_>, memref: &Name, at: &Access, ty: &MemrefType) -> bool
-    ensures { IsTrue result → IsFirstAccess of_text (arg_types scope.entry.args.now) scope.entry.var.now memref.now at.now ty.now }
-{
-    let size = size_of(scope.args, memref);
-    let written = vector_size(ty);
-    0 < size && written == size && is_own(memref) && is_at_turn(scope.var, at)
-}
-
-fn is_in_i32(value: i64) -> bool {
-    -2_147_483_648 <= value && value <= 2_147_483_647
-}
-
-fn is_addition(op: Op) -> bool
-    ensures { IsTrue result → op ≡ Op.Add }
-{
-    matches!(op, Op::Add)
-}
-
 /// Whether a statement of the loop's body is of the first form.
-fn is_plain(scope: Scope<'_>, what: &What) -> bool
-    ensures { IsTrue result → IsFirstWhat of_text (arg_types scope.entry.args.now) scope.entry.var.now what.now }
+fn has_form(var: &Name, what: &What) -> bool
+    ensures { IsTrue result ↔ HasFirstForm var.now what.now }
 {
     match what {
         What::Load {
             result,
             memref,
             at,
-            ty,
-        } => is_fresh(scope, result) && is_vector_access(scope, memref, at, ty),
+            ..
+        } => is_plain_name(result) && is_plain_name(memref) && is_at_turn(var, at),
         What::Store {
             value,
             memref,
             at,
-            ty,
-        } => is_known(scope, value) && is_vector_access(scope, memref, at, ty),
-        What::Constant { result, value, ty } => {
-            is_fresh(scope, result) && is_i32(*ty) && is_in_i32(*value)
-        }
+            ..
+        } => is_plain_name(value) && is_plain_name(memref) && is_at_turn(var, at),
+        What::Constant { result, ty, .. } => is_plain_name(result) && is_i32(*ty),
         What::Binary {
             result,
             op,
@@ -233,9 +148,9 @@ fn is_plain(scope: Scope<'_>, what: &What) -> bool
             right,
             ty,
         } => {
-            is_fresh(scope, result)
-                && is_known(scope, left)
-                && is_known(scope, right)
+            is_plain_name(result)
+                && is_plain_name(left)
+                && is_plain_name(right)
                 && is_addition(*op)
                 && is_i32(*ty)
         }
@@ -244,16 +159,11 @@ fn is_plain(scope: Scope<'_>, what: &What) -> bool
 }
 
 /// Whether all statements of the loop's body are of the first form.
-fn are_plain(args: &[Arg], var: &Name, body: &[Stmt]) -> bool
-    ensures { IsTrue result → All (IsFirstStmt of_text (arg_types args.now) var.now) body.now }
+fn have_form(var: &Name, body: &[Stmt]) -> bool
+    ensures { IsTrue result ↔ All (λ (s : stmt.Stmt). HasFirstForm var.now s.what) body.now }
 {
-    for (place, stmt) in body.iter().enumerate() {
-        let scope = Scope {
-            args,
-            var,
-            before: &body[..place],
-        };
-        if !is_plain(scope, &stmt.what) {
+    for stmt in body {
+        if !has_form(var, &stmt.what) {
             return false;
         }
     }
@@ -272,7 +182,8 @@ pub(crate) struct Looped<'a> {
 
 /// The integer that a bound is.
 fn integer(bound: &Bound) -> Option<i64>
-    ensures { IfSome result (λ value. bound.now ≡ Bound.Int value) }
+    ensures found { IfSome result (λ value. bound.now ≡ Bound.Int value) }
+    ensures missed { IfNone result ((value : ℤ) → bound.now ≡ Bound.Int value → ⊥) }
 {
     match bound {
         Bound::Int(value) => Some(*value),
@@ -281,14 +192,15 @@ fn integer(bound: &Bound) -> Option<i64>
 }
 
 fn is_return(what: &What) -> bool
-    ensures { IsTrue result → what.now ≡ What.Return }
+    ensures { IsTrue result ↔ (what.now ≡ What.Return) }
 {
     matches!(what, What::Return)
 }
 
 /// The loop that two statements are.
 fn loop_before_return<'a>(looped: &'a Stmt, last: &'a Stmt) -> Option<Looped<'a>>
-    ensures { IfSome result (λ l. looped.now ∷ last.now ∷ [] ≡ input_body (loop_of l)) }
+    ensures found { IfSome result (λ l. looped.now ∷ last.now ∷ [] ≡ input_body (loop_of l)) }
+    ensures missed { IfNone result ((l : FirstLoop) → looped.now ∷ last.now ∷ [] ≡ input_body l → ⊥) }
 {
     let What::For {
         var,
@@ -315,46 +227,33 @@ fn loop_before_return<'a>(looped: &'a Stmt, last: &'a Stmt) -> Option<Looped<'a>
     })
 }
 
-fn is_bound(value: i64) -> bool {
-    -MOST_BOUND <= value && value <= MOST_BOUND
-}
-
-/// Whether a loop over arguments is of the first form.
-fn is_plain_loop(args: &[Arg], looped: Looped<'_>) -> bool
-    ensures var { IsTrue result → of_text looped.entry.var.now ≡ true }
-    ensures stmts { IsTrue result → All (IsFirstStmt of_text (arg_types args.now) looped.entry.var.now) looped.entry.body.now }
-    ensures few { IsTrue result → length looped.entry.body.now ≤ 4096 }
+/// The loop that the statements of a module are.
+fn only_loop(body: &[Stmt]) -> Option<Looped<'_>>
+    ensures found { IfSome result (λ l. body.now ≡ input_body (loop_of l)) }
+    ensures missed { IfNone result ((l : FirstLoop) → body.now ≡ input_body l → ⊥) }
 {
-    is_bound(looped.turns.low)
-        && is_bound(looped.turns.high)
-        && is_own(looped.var)
-        && !begins_as_made(looped.var)
-        && argument_of(args, looped.var).is_none()
-        && looped.body.len() <= MOST_STATEMENTS - 2
-        && are_plain(args, looped.var, looped.body)
+    match body {
+        [looped, last] => loop_before_return(looped, last),
+        _ => None,
+    }
 }
 
-/// The loop of a module that is valid and of the first form.
+/// Whether arguments and a loop are of the first form.
+fn is_in_form(args: &[Arg], looped: Looped<'_>) -> bool
+    ensures { IsTrue result ↔ AreInForm args.now (loop_of looped.entry) }
+{
+    are_vectors(args) && is_plain_name(looped.var) && have_form(looped.var, looped.body)
+}
+
+/// The loop of a module of the first form.
 pub(crate) fn first_loop(module: &Module) -> Option<Looped<'_>>
-    ensures { IfSome result (λ l. IsFirst «module».now (loop_of l)) }
+    ensures found { IfSome result (λ l. IsOfFirstForm «module».now (loop_of l)) }
+    ensures missed { IfNone result ((l : FirstLoop) → IsOfFirstForm «module».now l → ⊥) }
 {
-    let [looped, last] = module.body.as_slice() else {
-        return None;
-    };
-    let found = loop_before_return(looped, last)?;
-    let args = module.args.as_slice();
-    if are_vectors(args) && is_plain_loop(args, found) {
+    let found = only_loop(module.body.as_slice())?;
+    if is_in_form(module.args.as_slice(), found) {
         Some(found)
     } else {
         None
     }
-}
-
-/// Whether a module is valid and of the first form: its arguments are vectors of `i32` of 262,144 elements at most
-/// together, its body is one loop with integer bounds, step 1 and no loop inside, whose body only loads and stores at the
-/// loop's variable, and makes and adds numbers of `i32`; no value's name is made or begins with `copy`.
-pub fn is_first_form(module: &Module) -> bool
-    ensures { IsTrue result → (looped : FirstLoop) × IsFirst «module».now looped }
-{
-    first_loop(module).is_some()
 }

@@ -10,7 +10,8 @@ mod form;
 mod place;
 mod plan;
 mod stage;
+mod valid;
 
-pub use form::is_first_form;
 pub use place::Placement;
 pub use stage::{Staged, stage_first};
+pub use valid::is_first_form;

@@ -1,17 +1,20 @@
 // The staged module.
-ghost use Rattle.std.specs.Prelude.{◌≡◌, ◌≤◌, [], true, IfOk, IfSome, length, map, nat_eq, if◌then◌else◌};
+ghost use Rattle.std.specs.Prelude.{◌≡◌, ◌≤◌, [], true, IfOk, IfSome, IfNone, length, map, nat_eq, if◌then◌else◌};
 ghost use Rattle.copy_emit.specs.Template as template;
+ghost use Rattle.copy_emit.specs.Template.{FirstLoop};
 ghost use Rattle.copy_emit.specs.Law as law;
 ghost use Rattle.copy_emit.specs.FirstPlan as first;
 ghost use Rattle.copy_emit.specs.FirstPlan.{copy_name, turn_count};
 ghost use Rattle.first_path.specs.Plan.{planned_of, as_staged};
-ghost use Rattle.first_path.specs.Form.{loop_of, looped_in_fast, IsFirst};
+ghost use Rattle.first_path.specs.Form.{loop_of, looped_in_fast, IsOfFirstForm};
+ghost use Rattle.first_path.specs.Valid.{IsValidFirst};
 ghost use Rattle.first_path.specs.Law.{IsStagedBy, RunsAs};
 
 use crate::emit::{all_after, all_before, redirect_body};
-use crate::form::{Looped, first_loop};
+use crate::form::Looped;
 use crate::place::{Placement, Turns, placements};
 use crate::plan::{Copied, numbered};
+use crate::valid::valid_loop;
 use affine_ast::{Arg, Bound, Module, Stmt, What};
 use copy_emit::first_plan_agrees;
 use sqlite_items::Items;
@@ -89,11 +92,7 @@ pub struct Staged {
 }
 
 /// What is copied: each memref that the loop accesses, and none where it has no turn.
-fn plan_of(
-    alloc: Global,
-    turns: Turns,
-    placements: &[Placement],
-) -> Result<Vec<Copied>, AllocError>
+fn plan_of(alloc: Global, turns: Turns, placements: &[Placement]) -> Result<Vec<Copied>, AllocError>
     requires { length placements.now ≤ 4096 }
     ensures { IfOk result (λ plan. map as_staged plan.items ≡ first.numbered (copy_name true) (if nat_eq (turn_count turns.low turns.high) 0 then [] else map planned_of placements.now)) }
 {
@@ -106,7 +105,8 @@ fn plan_of(
 
 /// The staged module of a module of the first form.
 fn staged_first(alloc: Global, module: &Module, looped: Looped<'_>) -> Result<Staged, AllocError>
-    requires { IsFirst «module».now (loop_of looped) }
+    requires form { IsOfFirstForm «module».now (loop_of looped) }
+    requires valid { IsValidFirst «module».now (loop_of looped) }
     ensures { IfOk result (λ staged. IsStagedBy «module».now staged) }
 {
     let placements = placements(alloc, looped.turns, looped.body)?;
@@ -119,12 +119,13 @@ fn staged_first(alloc: Global, module: &Module, looped: Looped<'_>) -> Result<St
     })
 }
 
-/// The staged module, where the module is of the first form.
+/// The staged module, exactly where the module is of the first form and valid.
 pub fn stage_first(alloc: Global, module: &Module) -> Result<Option<Staged>, AllocError>
     ensures staged { IfOk result (λ found. IfSome found (λ staged. IsStagedBy «module».now staged)) }
+    ensures refused { IfOk result (λ found. IfNone found ((l : FirstLoop) → IsOfFirstForm «module».now l → IsValidFirst «module».now l → ⊥)) }
     ensures agrees { IfOk result (λ found. IfSome found (λ staged. RunsAs «module».now staged.module)) }
 {
-    let Some(looped) = first_loop(module) else {
+    let Some(looped) = valid_loop(module) else {
         return Ok(None);
     };
     let staged = staged_first(alloc, module, looped)?;
