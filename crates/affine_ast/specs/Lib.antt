@@ -7,3 +7,4 @@ pub mod Scope
 pub mod Rules
 pub mod Validity
 pub mod PlainLimits
+pub mod PlainCode

@@ -1,6 +1,6 @@
 -- V13: what a module must be besides valid to be staged or run directly. It has no allocation, dealloc, start or wait, and keeps
 -- to the smaller limits, counted in the printed spelling.
-use Rattle.std.specs.Prelude.{ℕ, suc, ◌+◌, max, ℤ, pos, negsuc, Bool, true, false, ◌&&◌, List, [], ◌∷◌, Option, Some, None, nat_le, if◌then◌else◌}
+use Rattle.std.specs.Prelude.{ℕ, suc, ◌+◌, max, ℤ, pos, negsuc, Bool, true, false, ◌&&◌, Option, Some, None, nat_le, if◌then◌else◌}
 use Rattle.std.specs.List.{list_all}
 use Rattle.affine_expr.specs.declared.expr.Expr.{Expr, fold-Expr}
 use Rattle.affine_expr.specs.declared.expr.Expr.TheOpen.{Expr-F}
@@ -10,7 +10,7 @@ use Rattle.affine_ast.specs.declared.module.Module.{Module}
 use Rattle.affine_ast.specs.declared.types.Access.{Access}
 use Rattle.affine_ast.specs.declared.types.Bound.{Bound}
 use Rattle.affine_ast.specs.declared.types.Bound.TheVariants as bound
-use Rattle.affine_ast.specs.Nest.{Plain, Nest, Nothing, Loop, Branch, Does, Value, Load, Store, RawLoad, RawStore, Constant, Binary, Cast, Alloc, Dealloc, Start, Wait, Return, nest}
+use Rattle.affine_ast.specs.Nest.{Plain, Nest, Nothing, Loop, Branch, Does, Value, Load, Store, Alloc, Dealloc, Start, Wait, nest}
 
 -- the operands of an expression: its integers and its leaves
 abbrev pub operands_step : Expr-F ℕ → ℕ

@@ -5,15 +5,12 @@ use Rattle.std.specs.Cmp.Lexicographic.{pointwise}
 use Rattle.std.specs.List.{list_all}
 use Rattle.affine_expr.specs.declared.expr.Expr.{Expr}
 use Rattle.affine_expr.specs.declared.map.Constraint.{Constraint}
-use Rattle.affine_expr.specs.declared.map.Interval.{Interval}
 use Rattle.affine_expr.specs.declared.map.Set.{Set}
 use Rattle.affine_expr.specs.Bounded.{bounded}
 use Rattle.affine_expr.specs.Pure.{is_outside, is_pure, has_leaves_below}
 use Rattle.affine_expr.specs.Spread.{Range}
 use Rattle.int_ops.specs.declared.operation.CastKind.{CastKind}
 use Rattle.int_ops.specs.declared.operation.CastKind.TheVariants as cast
-use Rattle.affine_ast.specs.declared.module.ArgKind.{ArgKind}
-use Rattle.affine_ast.specs.declared.module.ArgKind.TheVariants as kind
 use Rattle.affine_ast.specs.declared.name.Name.{Name}
 use Rattle.affine_ast.specs.declared.types.Access.{Access}
 use Rattle.affine_ast.specs.declared.types.Bound.{Bound}
@@ -25,11 +22,10 @@ use Rattle.affine_ast.specs.declared.types.Pick.{Pick}
 use Rattle.affine_ast.specs.declared.types.Pick.TheVariants.{Apply, Min, Max}
 use Rattle.affine_ast.specs.declared.types.Scalar.{Scalar}
 use Rattle.affine_ast.specs.declared.types.Scalar.TheVariants.{Int, Index}
-use Rattle.affine_ast.specs.Intervals.{Ranges}
 use Rattle.affine_ast.specs.Names.{same_name}
 use Rattle.affine_ast.specs.Nest.{Plain, Nest, Nothing, Loop, Branch, Does, Value, Load, Store, RawLoad, RawStore, Constant, Binary, Cast, Alloc, Dealloc, Start, Wait, Return}
 use Rattle.affine_ast.specs.Scope.{Binding, Variable, Symbol, IndexConstant, Data, MemrefArgument, Allocation, Scope, ranges_in, Totals, Around}
-use Rattle.affine_ast.specs.Sizes.{element_bits, scalar_bits, product}
+use Rattle.affine_ast.specs.Sizes.{element_bits, scalar_bits}
 
 -- the stride and the chunk of a transfer, where it has them
 abbrev pub stride_names : Option (Name × Name) → List Name

@@ -1,7 +1,6 @@
 -- Validity of a module, and the first broken rule: that of the first argument or statement in text order that breaks one, and of
 -- its rules the lowest.
-use Rattle.std.specs.Prelude.{◌≡◌, ℕ, suc, ◌+◌, ℤ, Bool, true, false, not, ◌&&◌, List, [], ◌∷◌, length, Option, Some, None, nat_eq, int_le, if◌then◌else◌}
-use Rattle.affine_expr.specs.declared.map.Interval.{Interval}
+use Rattle.std.specs.Prelude.{◌≡◌, ℕ, suc, ◌+◌, ℤ, Bool, true, false, ◌&&◌, List, [], ◌∷◌, Option, Some, None, nat_eq, int_le, if◌then◌else◌}
 use Rattle.affine_expr.specs.declared.map.Set.{Set}
 use Rattle.affine_expr.specs.Bounded.{range_at}
 use Rattle.affine_ast.specs.declared.module.Arg.{Arg}
@@ -10,7 +9,6 @@ use Rattle.affine_ast.specs.declared.module.ArgKind.TheVariants as kind
 use Rattle.affine_ast.specs.declared.module.Module.{Module}
 use Rattle.affine_ast.specs.declared.name.Name.{Name}
 use Rattle.affine_ast.specs.declared.types.Bound.{Bound}
-use Rattle.affine_ast.specs.declared.types.MemrefType.{MemrefType}
 use Rattle.affine_ast.specs.Intervals.{range_or}
 use Rattle.affine_ast.specs.Nest.{Plain, Nest, Nothing, Loop, Branch, Does, Alloc, nest}
 use Rattle.affine_ast.specs.Scope.{Binding, Symbol, MemrefArgument, Totals, Around, with_name, with_totals, counted, in_loop, in_condition, behind_plain, totals_with}
@@ -145,11 +143,14 @@ outside = record { scope = λ n. None; released = λ n. false; loops = 0; ifs = 
 unfoldable pub told_module : Module → Told
 told_module m = told_arguments m.args (told (nest m.body)) outside
 
--- where a module breaks a rule: the line and the rule
-abbrev pub BreaksAt : Module → ℕ → ℕ → Type 0
-BreaksAt m line number = told_module m ≡ Broken line number
+abbrev pub broken_of : Told → Option (ℕ × ℕ)
+broken_of (Broken line number) = Some (line, number)
+broken_of (Passed t) = None
+
+-- the first broken rule of a module: the line of the first argument or statement that breaks one, and the lowest that it breaks
+unfoldable pub first_broken : Module → Option (ℕ × ℕ)
+first_broken m = broken_of (told_module m)
 
 -- a valid module: no argument and no statement breaks one of the rules V1 to V12
-pub record IsValid (m : Module) : Type 0 where
-  pub totals : Totals
-  pub passes : told_module m ≡ Passed totals
+abbrev pub IsValid : Module → Type 0
+IsValid m = first_broken m ≡ None
