@@ -7,4 +7,5 @@
 #![tactic(auto)]
 
 mod lookup;
+mod purity;
 mod scope;
