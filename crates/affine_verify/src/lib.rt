@@ -9,3 +9,4 @@
 mod lookup;
 mod purity;
 mod scope;
+mod shapes;
