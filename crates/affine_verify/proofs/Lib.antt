@@ -2,3 +2,4 @@ pub mod Keys
 pub mod Found
 pub mod PurityLaws
 pub mod Products
+pub mod Intervals

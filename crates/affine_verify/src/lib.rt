@@ -6,6 +6,7 @@
 //! crate stands on `affine_ast`, `affine_expr` and `indexmap`.
 #![tactic(auto)]
 
+mod bounded;
 mod lookup;
 mod purity;
 mod scope;
