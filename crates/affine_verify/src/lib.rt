@@ -7,6 +7,7 @@
 #![tactic(auto)]
 
 mod bounded;
+mod kinds;
 mod lookup;
 mod purity;
 mod scope;

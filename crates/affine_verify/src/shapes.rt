@@ -89,7 +89,8 @@ pub(crate) fn set_fits(set: &Set, operands: &[Name]) -> bool
 
 #[tactic(auto, unfolding(affine_ast::specs::Rules::subscripts_fit))]
 pub(crate) fn subscripts_fit(at: &Access, ty: &MemrefType) -> bool
-    ensures { result ≡ subscripts_fit at.now ty.now }
+    ensures value { result ≡ subscripts_fit at.now ty.now }
+    ensures map { result ≡ true → map_fits at.now ≡ true }
 {
     map_fits(at) && at.map.results.len() == ty.sizes.len()
 }
