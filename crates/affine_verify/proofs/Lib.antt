@@ -1,5 +1,0 @@
-pub mod Keys
-pub mod Found
-pub mod PurityLaws
-pub mod Products
-pub mod Intervals
