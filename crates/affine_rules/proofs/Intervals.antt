@@ -27,12 +27,12 @@ pub ranges_push : (is : List Interval) (i : Interval) → ranges (is ++ i ∷ []
 ranges_push [] i = refl
 ranges_push (j ∷ is) i = ap (λ rs. range_at j ∷ rs) (ranges_push is i)
 
-ranges_take : (n : ℕ) (is : List Interval) → ranges (take n is) ≡ take n (ranges is)
+pub ranges_take : (n : ℕ) (is : List Interval) → ranges (take n is) ≡ take n (ranges is)
 ranges_take zero is = refl
 ranges_take (suc n) [] = refl
 ranges_take (suc n) (i ∷ is) = ap (λ rs. range_at i ∷ rs) (ranges_take n is)
 
-ranges_drop : (n : ℕ) (is : List Interval) → ranges (drop n is) ≡ drop n (ranges is)
+pub ranges_drop : (n : ℕ) (is : List Interval) → ranges (drop n is) ≡ drop n (ranges is)
 ranges_drop zero is = refl
 ranges_drop (suc n) [] = refl
 ranges_drop (suc n) (i ∷ is) = ranges_drop n is

@@ -103,7 +103,7 @@ fn rows_have_intervals(rows: &[Constraint], dims: &[Interval], syms: &[Interval]
     true
 }
 
-fn parted_intervals(dims: u32, intervals: &[Interval]) -> (&[Interval], &[Interval])
+pub fn parted_intervals(dims: u32, intervals: &[Interval]) -> (&[Interval], &[Interval])
     ensures dims { result.0.now ≡ take dims intervals.now }
     ensures syms { result.1.now ≡ drop dims intervals.now }
 {

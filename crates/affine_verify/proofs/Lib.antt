@@ -1,0 +1,5 @@
+pub mod Plains
+pub mod Released
+pub mod Shapes
+pub mod Results
+pub mod PlainlyLaws
