@@ -97,3 +97,34 @@ pub fn release<'a>(released: &mut IndexSet<Key<'a>>, name: &'a Name) -> Result<(
     released.insert(key_of(name))?;
     Ok(())
 }
+
+impl<'a> Scoped<'a> {
+    /// What stands round a module: nothing is in scope.
+    pub fn new(alloc: Global) -> Scoped<'a>
+        ensures names { result.names.entries ≡ [] }
+        ensures released { result.released.keys ≡ [] }
+        ensures loops { result.loops ≡ 0 }
+        ensures ifs { result.ifs ≡ 0 }
+        ensures statements { result.totals.statements ≡ 0 }
+        ensures memrefs { result.totals.memrefs ≡ 0 }
+        ensures indexes { result.totals.indexes ≡ 0 }
+        ensures elements { result.totals.elements ≡ 0 }
+        ensures allocated { result.totals.allocated ≡ 0 }
+        ensures tags { result.totals.tags ≡ 0 }
+    {
+        Scoped {
+            names: IndexMap::new(alloc),
+            released: IndexSet::new(alloc),
+            loops: 0,
+            ifs: 0,
+            totals: Totals {
+                memrefs: 0,
+                indexes: 0,
+                elements: 0,
+                allocated: 0,
+                tags: 0,
+                statements: 0,
+            },
+        }
+    }
+}

@@ -3,3 +3,4 @@ pub mod Released
 pub mod Shapes
 pub mod Results
 pub mod PlainlyLaws
+pub mod Walks

@@ -1,13 +1,13 @@
 -- Plain statements that define a name, release one, or do neither.
-use Rattle.std.proofs.Common.{◌≡◌, ℕ, suc, Bool, true, false, List, refl, sym, ap, subst, ◌∙◌, take, length, arith}
-use Rattle.std.specs.Prelude.{◌&&◌, not, Option, Some, None, Result, Ok, Err, if◌then◌else◌}
+use Rattle.std.proofs.Common.{◌≡◌, ℕ, suc, Bool, true, false, List, [], ◌∷◌, refl, sym, ap, subst, ◌∙◌, take, length, arith}
+use Rattle.std.specs.Prelude.{◌&&◌, not, Option, Some, None, is_some, Result, Ok, Err, if◌then◌else◌}
 use Rattle.std.proofs.lemmas.Bool.{and_parts}
 use Rattle.affine_ast.specs.declared.name.Name.{Name}
 use Rattle.affine_ast.specs.declared.types.Access.{Access}
 use Rattle.affine_ast.specs.declared.types.Pick.{Pick}
 use Rattle.affine_ast.specs.Nest.{Plain, Nest, Value, Load, Store, RawLoad, RawStore, Constant, Binary, Cast, Alloc, Dealloc, Start, Wait, Return}
 use Rattle.affine_ast.specs.Rules.{is_in, uses_in_scope, defines_new, uses_stand, types_agree, constant_in_range, counts_fit, maps_pure, maps_bounded, spaces_agree, text_within, map_fits, results_fit, access_pure, access_bounded, is_live, is_allocated}
-use Rattle.affine_ast.specs.Scope.{Binding, Around, with_name, behind_plain}
+use Rattle.affine_ast.specs.Scope.{Binding, Scope, Around, with_name, behind_plain}
 use Rattle.affine_ast.specs.Validity.{rule, rule_of_plain, elements_within}
 use Rattle.affine_rules.specs.declared.scope.Scoped.{Scoped}
 use Rattle.affine_rules.specs.Scoped.{scope_of, around_of}
@@ -61,7 +61,8 @@ pub extends_self : (s : Scoped) → Extends s s
 extends_self s = record { names = take_all s.names.entries; released = take_all s.released.keys; loops = refl; ifs = refl }
   where
     take_all : {X : Type 0} (xs : List X) → take (length xs) xs ≡ xs
-    take_all xs = ?
+    take_all [] = refl
+    take_all (x ∷ xs) = ap (λ l. x ∷ l) (take_all xs)
 
 -- a statement that defines a name
 pub plainly_defined : (r : Result (Unit {0}) VerifyFault) (line : ℕ) (p : Plain) (rest : Nest) (n : Name) (b : Binding) (old new : Scoped) (found : Option ℕ) → found ≡ rule_of_plain (around_of old) p rest
@@ -78,3 +79,18 @@ plainly_defined (Err Memory) line p rest n b old new found is d behind fresh = t
 pub plainly_kept : (line : ℕ) (p : Plain) (rest : Nest) (s : Scoped) (found : Option ℕ) → found ≡ rule_of_plain (around_of s) p rest → behind_plain p (around_of s) ≡ around_of s → Plainly (judgement line found) line p rest s s
 plainly_kept line p rest s None is behind = (sym is, sym behind, extends_self s)
 plainly_kept line p rest s (Some number) is behind = (refl, sym is)
+
+pub judged_ok : (line : ℕ) (found : Option ℕ) (done : Unit {0}) → Ok done ≡ judgement line found → found ≡ None
+judged_ok line None done h = refl
+judged_ok line (Some number) done h = absurd (let z : ⊥ = cc in z)
+
+none_there : (o : Option Binding) → is_some o ≡ false → o ≡ None
+none_there None h = refl
+none_there (Some b) h = absurd (let z : ⊥ = cc in z)
+
+pub absent_name : (s : Scope) (n : Name) (b : Bool) → b ≡ is_in s n → b ≡ false → s n ≡ None
+unfolding is_in
+absent_name s n b h k = none_there (s n) (sym h ∙ k)
+
+pub both_held : (a b : Bool) → (a && b) ≡ true → (a ≡ true) × (b ≡ true)
+both_held a b h = and_parts a b h

@@ -202,3 +202,12 @@ pub else_step : (m : Name) (line : ℕ) (rest : Nest) (set : Set) (names : List 
     → deallocs m (put_what (what.If set names first (Some other)) line rest) ≡ deallocs m (nest first) + (deallocs m (nest other) + deallocs m rest)
 unfolding deallocs
 else_step m line rest set names first other = ap (deallocs m) (put-If-else line rest set names first other)
+
+pub region-For : (v : Name) (l u : Bound) (s : ℤ) (body : List Stmt) → is_region (what.For v l u s body) ≡ true
+unfolding is_region
+region-For v l u s body = ap head_is_region (put-For 0 Nothing v l u s body)
+
+pub region-If : (set : Set) (names : List Name) (first : List Stmt) (other : Option (List Stmt)) → is_region (what.If set names first other) ≡ true
+unfolding is_region
+region-If set names first None = ap head_is_region (put-If 0 Nothing set names first)
+region-If set names first (Some other) = ap head_is_region (put-If-else 0 Nothing set names first other)

@@ -46,8 +46,9 @@ Defines (Ok done) line rule n b old new = (rule ≡ None) × (is_in (scope_of ol
 Defines (Err (Invalid at number)) line rule n b old new = (at ≡ line) × (rule ≡ Some number)
 Defines (Err Memory) line rule n b old new = Unit {0}
 
--- what is counted keeps within the limits
-pub record Small (s : Scoped) : Type 0 where
-  pub statements : s.totals.statements ≤ 65536
-  pub loops : s.loops ≤ 17
-  pub ifs : s.ifs ≤ 17
+-- a region is entered where its head breaks no rule: what stands round its statements, and the names of before
+abbrev pub Enters : Result (Unit {0}) VerifyFault → ℕ → Option ℕ → Around → Scoped → Scoped → Type 0
+Enters (Ok done) line rule inner old new =
+    (rule ≡ None) × (around_of new ≡ inner) × (take (length old.names.entries) new.names.entries ≡ old.names.entries) × (take (length old.released.keys) new.released.keys ≡ old.released.keys)
+Enters (Err (Invalid at number)) line rule inner old new = (at ≡ line) × (rule ≡ Some number)
+Enters (Err Memory) line rule inner old new = Unit {0}

@@ -10,5 +10,6 @@ mod plain;
 mod release;
 mod totals;
 mod values;
+mod walk;
 
 pub use fault::VerifyFault;
