@@ -4,3 +4,4 @@ pub mod Shapes
 pub mod Results
 pub mod PlainlyLaws
 pub mod Walks
+pub mod ModuleLaws

@@ -52,3 +52,25 @@ Enters (Ok done) line rule inner old new =
     (rule ≡ None) × (around_of new ≡ inner) × (take (length old.names.entries) new.names.entries ≡ old.names.entries) × (take (length old.released.keys) new.released.keys ≡ old.released.keys)
 Enters (Err (Invalid at number)) line rule inner old new = (at ≡ line) × (rule ≡ Some number)
 Enters (Err Memory) line rule inner old new = Unit {0}
+
+-- an argument: what stands round the next, or the rule that it breaks
+abbrev pub Argues : Result (Unit {0}) VerifyFault → ℕ → Option ℕ → Around → Scoped → Type 0
+Argues (Ok done) line rule behind new = (rule ≡ None) × (around_of new ≡ behind)
+Argues (Err (Invalid at number)) line rule behind new = (at ≡ line) × (rule ≡ Some number)
+Argues (Err Memory) line rule behind new = Unit {0}
+
+-- no statement is counted, and no loop or condition entered
+pub record Counts (old new : Scoped) : Type 0 where
+  pub statements : new.totals.statements ≡ old.totals.statements
+  pub loops : new.loops ≡ old.loops
+  pub ifs : new.ifs ≡ old.ifs
+
+-- the fault is the first broken rule, or want of memory
+abbrev pub IsTold : VerifyFault → Option (ℕ × ℕ) → Type 0
+IsTold (Invalid line number) first = first ≡ Some (line, number)
+IsTold Memory first = Unit {0}
+
+-- no rule is broken, or the fault says which is the first
+abbrev pub Answers : Result (Unit {0}) VerifyFault → Option (ℕ × ℕ) → Type 0
+Answers (Ok done) first = first ≡ None
+Answers (Err fault) first = IsTold fault first

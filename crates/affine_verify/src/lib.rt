@@ -5,11 +5,14 @@
 //! `affine_ast`, `specs/Validity`. The crate stands on `affine_rules`, which has the rules of one statement.
 #![tactic(auto)]
 
+mod arguments;
 mod fault;
 mod plain;
 mod release;
+mod sealing;
 mod totals;
 mod values;
 mod walk;
 
 pub use fault::VerifyFault;
+pub use sealing::verify;
