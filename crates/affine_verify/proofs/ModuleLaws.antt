@@ -1,24 +1,23 @@
 -- The arguments in order, and the whole module.
-use Rattle.std.proofs.Common.{◌≡◌, ℕ, suc, ◌+◌, ◌<◌, ◌≤◌, Bool, true, false, List, [], ◌∷◌, drop, length, get_or, refl, sym, ap, ◌∙◌, arith}
-use Rattle.std.specs.Prelude.{◌&&◌, not, Option, Some, None, Result, Ok, Err, OnOk, is_err}
+use Rattle.std.proofs.Common.{◌≡◌, ℕ, ◌+◌, ◌<◌, ◌≤◌, true, false, List, [], ◌∷◌, drop, length, get_or, refl, sym, ap, ◌∙◌}
+use Rattle.std.specs.Prelude.{not, Option, None, Result, Ok, Err, is_err}
 use Rattle.std.proofs.lemmas.Bool.{and_parts}
 use Rattle.std.proofs.lemmas.List.{drop_more, drop_all}
-use mathlib.Core.Path.{fun_ext}
 use Rattle.affine_ast.specs.declared.module.Arg.{Arg}
 use Rattle.affine_ast.specs.declared.module.ArgKind.{ArgKind}
 use Rattle.affine_ast.specs.declared.module.ArgKind.TheVariants.{Memref, Index}
 use Rattle.affine_ast.specs.declared.module.Module.{Module}
 use Rattle.affine_ast.specs.declared.name.Name.{Name}
 use Rattle.affine_ast.specs.declared.stmt.Stmt.{Stmt}
-use Rattle.affine_ast.specs.Nest.{Nest, nest}
+use Rattle.affine_ast.specs.Nest.{nest}
 use Rattle.affine_ast.specs.Rules.{is_in, arguments_within}
 use Rattle.affine_ast.specs.Scope.{Totals, Around}
-use Rattle.affine_ast.specs.Validity.{Told, Broken, Passed, judged, told, told_arguments, rule_of_argument, behind_argument, range_ordered, range_small, argument_is_slow, argument_shape, with_argument, told_module, outside, broken_of, first_broken}
+use Rattle.affine_ast.specs.Validity.{Told, Broken, judged, told, told_arguments, rule_of_argument, behind_argument, range_ordered, range_small, argument_is_slow, argument_shape, with_argument, told_module, outside, broken_of, first_broken}
 use Rattle.affine_rules.specs.declared.scope.Scoped.{Scoped}
 use Rattle.affine_rules.specs.Scoped.{around_of, totals_of, scope_of, names_of}
 use Rattle.affine_verify.specs.declared.fault.VerifyFault.{VerifyFault}
 use Rattle.affine_verify.specs.declared.fault.VerifyFault.TheVariants.{Invalid, Memory}
-use Rattle.affine_verify.specs.Comes.{Steps, Comes, Argues, Counts, Answers, IsTold}
+use Rattle.affine_verify.specs.Comes.{Steps, Comes, Argues, Counts, Answers}
 use Rattle.affine_verify.proofs.PlainlyLaws.{rule_held}
 
 -- what holds of an argument that breaks no rule

@@ -1,12 +1,10 @@
 -- Plain statements that define a name, release one, or do neither.
-use Rattle.std.proofs.Common.{◌≡◌, ℕ, suc, Bool, true, false, List, [], ◌∷◌, refl, sym, ap, subst, ◌∙◌, take, length, arith}
-use Rattle.std.specs.Prelude.{◌&&◌, not, Option, Some, None, is_some, Result, Ok, Err, if◌then◌else◌}
+use Rattle.std.proofs.Common.{◌≡◌, ℕ, Bool, true, false, List, [], ◌∷◌, refl, sym, ap, ◌∙◌, take, length}
+use Rattle.std.specs.Prelude.{◌&&◌, not, Option, Some, None, is_some, Result, Ok, Err}
 use Rattle.std.proofs.lemmas.Bool.{and_parts}
 use Rattle.affine_ast.specs.declared.name.Name.{Name}
-use Rattle.affine_ast.specs.declared.types.Access.{Access}
-use Rattle.affine_ast.specs.declared.types.Pick.{Pick}
-use Rattle.affine_ast.specs.Nest.{Plain, Nest, Value, Load, Store, RawLoad, RawStore, Constant, Binary, Cast, Alloc, Dealloc, Start, Wait, Return}
-use Rattle.affine_ast.specs.Rules.{is_in, uses_in_scope, defines_new, uses_stand, types_agree, constant_in_range, counts_fit, maps_pure, maps_bounded, spaces_agree, text_within, map_fits, results_fit, access_pure, access_bounded, is_live, is_allocated}
+use Rattle.affine_ast.specs.Nest.{Plain, Nest}
+use Rattle.affine_ast.specs.Rules.{is_in, uses_in_scope, defines_new, uses_stand, types_agree, constant_in_range, counts_fit, maps_pure, maps_bounded, spaces_agree, text_within}
 use Rattle.affine_ast.specs.Scope.{Binding, Scope, Around, with_name, behind_plain}
 use Rattle.affine_ast.specs.Validity.{rule, rule_of_plain, elements_within}
 use Rattle.affine_rules.specs.declared.scope.Scoped.{Scoped}

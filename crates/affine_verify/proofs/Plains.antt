@@ -1,5 +1,5 @@
 -- Statements without a region.
-use Rattle.std.proofs.Common.{◌≡◌, ℕ, ◌+◌, ℤ, Bool, true, false, List, refl, sym, ap, ◌∙◌, arith}
+use Rattle.std.proofs.Common.{◌≡◌, ℕ, ◌+◌, ℤ, true, false, List, refl, sym, ap, ◌∙◌, arith}
 use Rattle.std.specs.Prelude.{Option, Some, None}
 use Rattle.affine_expr.specs.declared.map.Set.{Set}
 use Rattle.int_ops.specs.declared.operation.CastKind.{CastKind}
@@ -14,7 +14,7 @@ use Rattle.affine_ast.specs.declared.stmt.Stmt.{Stmt}
 use Rattle.affine_ast.specs.declared.stmt.What as what
 use Rattle.affine_ast.specs.declared.stmt.What.{What}
 use Rattle.affine_ast.specs.declared.stmt.What.TheOpen.{What-F}
-use Rattle.affine_ast.specs.Nest.{Plain, Value, Load, Store, RawLoad, RawStore, Constant, Binary, Cast, Alloc, Dealloc, Start, Wait, Return, Nest, Nothing, Loop, Branch, Does, Puts, put_layer, put_what, put_stmt, nest}
+use Rattle.affine_ast.specs.Nest.{Value, Load, Store, RawLoad, RawStore, Constant, Binary, Cast, Alloc, Dealloc, Start, Wait, Return, Nest, Nothing, Does, Puts, put_layer, put_what, put_stmt, nest}
 use Rattle.affine_ast.specs.Rules.{deallocs, own_deallocs, is_dealloc_of}
 use Rattle.affine_ast.proofs.Nests.{put_what_is, put-For, put-If, put-If-else, put-Value, put-Load, put-Store, put-RawLoad, put-RawStore, put-Constant, put-Binary, put-Cast, put-Alloc, put-Dealloc, put-Start, put-Wait, put-Return}
 use Rattle.affine_verify.specs.Plains.{head_plain, head_is_region, plain_of, is_region}

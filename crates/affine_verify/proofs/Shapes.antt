@@ -1,6 +1,5 @@
 -- Shapes within the limits.
 use Rattle.std.proofs.Common.{◌≡◌, true, length}
-use Rattle.std.specs.Prelude.{◌&&◌}
 use Rattle.std.proofs.lemmas.Bool.{and_parts}
 use Rattle.affine_ast.specs.declared.types.MemrefType.{MemrefType}
 use Rattle.affine_ast.specs.Rules.{shape_within, sizes_positive, rank_within}

@@ -1,5 +1,5 @@
 -- What a call comes to, against what is told of the text.
-use Rattle.std.specs.Prelude.{◌≡◌, ◌≤◌, ℕ, false, List, length, take, Option, Some, None, Result, Ok, Err}
+use Rattle.std.specs.Prelude.{◌≡◌, ℕ, false, length, take, Option, Some, None, Result, Ok, Err}
 use Rattle.affine_ast.specs.declared.name.Name.{Name}
 use Rattle.affine_ast.specs.Nest.{Plain, Nest}
 use Rattle.affine_ast.specs.Rules.{is_in}

@@ -1,4 +1,4 @@
-use Rattle.std.proofs.Common.{◌≡◌, ◌∙◌, ap, sym}
+use Rattle.std.proofs.Common.{◌∙◌, ap, sym}
 use Rattle.affine_ast.specs.Scope.{with_name, with_totals}
 use Rattle.affine_ast.specs.Validity.{with_argument}
 use Rattle.affine_rules.specs.Scoped.{around_of, totals_of}

@@ -1,4 +1,4 @@
-use Rattle.std.proofs.Common.{◌≡◌, ◌∙◌, sym, arith, drop, refl}
+use Rattle.std.proofs.Common.{◌∙◌, sym, arith, refl}
 use Rattle.affine_rules.specs.Scoped.{around_of}
 use Rattle.affine_verify.proofs.ModuleLaws.{argued_ok, argued_refused, argued_counts, arguments_end, counts_both, counts_self}
 use Rattle.affine_verify.proofs.arguments.arguments.Goals as goal

@@ -1,9 +1,7 @@
-use Rattle.std.proofs.Common.{◌≡◌, ◌∙◌, ap, sym, arith, ◌+◌, ◌≤◌, ℕ, drop}
-use Rattle.std.specs.Prelude.{min}
+use Rattle.std.proofs.Common.{◌∙◌, ap, sym, arith, ◌+◌, drop}
 use Rattle.affine_ast.specs.declared.stmt.What as what
 use Rattle.affine_ast.specs.Nest.{nest, put_what}
 use Rattle.affine_ast.specs.Rules.{deallocs}
-use Rattle.affine_verify.specs.Plains.{is_region}
 use Rattle.affine_verify.proofs.Plains.{loop_step, if_step, else_step}
 use Rattle.affine_verify.proofs.Released.{count_step, count_end, one_region, two_regions}
 use Rattle.affine_verify.proofs.release.+deallocs.Goals as goal

@@ -1,4 +1,4 @@
-use Rattle.std.proofs.Common.{◌≡◌, ◌∙◌, arith}
+use Rattle.std.proofs.Common.{arith}
 use Rattle.affine_verify.proofs.Released.{own_next, own_end}
 use Rattle.affine_verify.proofs.release.own.Goals as goal
 

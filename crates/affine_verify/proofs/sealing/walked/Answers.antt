@@ -1,4 +1,4 @@
-use Rattle.std.proofs.Common.{◌≡◌, ◌∙◌, ◌≤◌, ap, sym, subst, arith}
+use Rattle.std.proofs.Common.{◌∙◌, sym, subst, arith}
 use Rattle.affine_ast.specs.Nest.{nest}
 use Rattle.affine_ast.specs.Validity.{told, told_arguments}
 use Rattle.affine_rules.specs.Scoped.{around_of}

@@ -1,4 +1,4 @@
-use Rattle.std.proofs.Common.{◌≡◌, length}
+use Rattle.std.proofs.Common.{length}
 use Rattle.affine_expr.specs.Bounded.{ranges}
 use Rattle.affine_expr.specs.Pure.{is_pure, has_leaves_below}
 use Rattle.affine_expr.specs.Spread.{range_of}

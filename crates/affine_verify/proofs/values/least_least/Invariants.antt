@@ -1,6 +1,6 @@
 use Rattle.std.proofs.Common.{◌≡◌, drop, map}
 use Rattle.std.specs.Prelude.{fold}
-use Rattle.std.specs.Int.{int_min, int_max}
+use Rattle.std.specs.Int.{int_min}
 use Rattle.affine_expr.specs.Bounded.{ranges}
 use Rattle.affine_expr.specs.Spread.{Range}
 use Rattle.affine_verify.proofs.values.least_least.Given as goal

@@ -1,9 +1,9 @@
-use Rattle.std.proofs.Common.{◌≡◌, ◌∙◌, ap, sym, take, drop, map, length}
+use Rattle.std.proofs.Common.{◌∙◌, ap, take, drop, map}
 use Rattle.std.specs.List.{list_all}
 use Rattle.affine_expr.specs.Bounded.{ranges}
-use Rattle.affine_expr.specs.Pure.{is_pure, has_leaves_below}
+use Rattle.affine_expr.specs.Pure.{is_pure}
 use Rattle.affine_expr.specs.Spread.{range_of}
-use Rattle.affine_ast.specs.Rules.{has_interval, access_pure}
+use Rattle.affine_ast.specs.Rules.{access_pure}
 use Rattle.affine_ast.specs.Scope.{ranges_in}
 use Rattle.affine_rules.specs.Scoped.{scope_of}
 use Rattle.affine_rules.proofs.Intervals.{leaves_among}

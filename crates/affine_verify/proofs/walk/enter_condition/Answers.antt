@@ -1,4 +1,4 @@
-use Rattle.std.proofs.Common.{◌≡◌, ◌∙◌, sym, arith, ◌≤◌}
+use Rattle.std.proofs.Common.{◌∙◌, sym, arith}
 use Rattle.affine_rules.specs.Scoped.{around_of}
 use Rattle.affine_verify.proofs.PlainlyLaws.{judged_ok}
 use Rattle.affine_verify.proofs.Walks.{condition_holds, text_small}

@@ -2,8 +2,6 @@ use Rattle.std.proofs.Common.{◌≡◌, ◌∙◌, ap, sym, refl, subst, true, 
 use Rattle.std.proofs.lemmas.Int.{to_z-of_z}
 use Rattle.affine_ast.specs.Nest.{Plain, Nest, nest}
 use Rattle.affine_ast.specs.Nest as plain
-use Rattle.affine_ast.specs.Validity.{rule_of_plain}
-use Rattle.affine_rules.specs.Scoped.{around_of}
 use Rattle.affine_verify.specs.Comes.{Plainly}
 use Rattle.affine_verify.specs.Plains.{plain_of, is_region}
 use Rattle.affine_verify.proofs.PlainlyLaws.{plainly_kept}
