@@ -41,14 +41,24 @@ step (Expr-F.Mod a b) = record {
   pure = (λ i. (a.1.pure i && b.1.pure i) && expr.is_positive (b.1.fixed i)) ∙ ap (λ t. (((meaning.purity a.0).pure && (meaning.purity b.0).pure) && t)) (positive_same (meaning.purity b.0).fixed);
 }
 
-layer : (y : Expr-F ((e : Expr) × SameOf (expr.purity e) (meaning.purity e))) → SameOf (expr.purity (roll-Expr (map-Expr ((e : Expr) × SameOf (expr.purity e) (meaning.purity e)) Expr (λ e. e.0) y))) (meaning.purity (roll-Expr (map-Expr ((e : Expr) × SameOf (expr.purity e) (meaning.purity e)) Expr (λ e. e.0) y)))
+layer : (x : Expr-F Expr) → SameOf (expr.purity_step (map-Expr Expr expr.Purity expr.purity x)) (meaning.purity_step (map-Expr Expr meaning.Purity meaning.purity x)) → SameOf (expr.purity (roll-Expr x)) (meaning.purity (roll-Expr x))
 unfolding meaning.purity
-layer y =
-    let x = map-Expr ((e : Expr) × SameOf (expr.purity e) (meaning.purity e)) Expr (λ e. e.0) y in
-    subst (λ t. t) (λ i. SameOf (sym (fold-roll-Expr expr.Purity expr.purity_step x) i) (sym (fold-roll-Expr meaning.Purity meaning.purity_step x) i)) (step y)
+layer x h = subst (λ t. t) (λ i. SameOf (sym (fold-roll-Expr expr.Purity expr.purity_step x) i) (sym (fold-roll-Expr meaning.Purity meaning.purity_step x) i)) h
+
+at : (y : Expr-F ((e : Expr) × SameOf (expr.purity e) (meaning.purity e))) → SameOf (expr.purity (roll-Expr (map-Expr ((e : Expr) × SameOf (expr.purity e) (meaning.purity e)) Expr (λ e. e.0) y))) (meaning.purity (roll-Expr (map-Expr ((e : Expr) × SameOf (expr.purity e) (meaning.purity e)) Expr (λ e. e.0) y)))
+at (Expr-F.Dim n) = layer (Expr-F.Dim n) (step (Expr-F.Dim n))
+at (Expr-F.Sym n) = layer (Expr-F.Sym n) (step (Expr-F.Sym n))
+at (Expr-F.Const z) = layer (Expr-F.Const z) (step (Expr-F.Const z))
+at (Expr-F.Neg a) = layer (Expr-F.Neg a.0) (step (Expr-F.Neg a))
+at (Expr-F.Add a b) = layer (Expr-F.Add a.0 b.0) (step (Expr-F.Add a b))
+at (Expr-F.Sub a b) = layer (Expr-F.Sub a.0 b.0) (step (Expr-F.Sub a b))
+at (Expr-F.Mul a b) = layer (Expr-F.Mul a.0 b.0) (step (Expr-F.Mul a b))
+at (Expr-F.FloorDiv a b) = layer (Expr-F.FloorDiv a.0 b.0) (step (Expr-F.FloorDiv a b))
+at (Expr-F.CeilDiv a b) = layer (Expr-F.CeilDiv a.0 b.0) (step (Expr-F.CeilDiv a b))
+at (Expr-F.Mod a b) = layer (Expr-F.Mod a.0 b.0) (step (Expr-F.Mod a b))
 
 same : (e : Expr) → SameOf (expr.purity e) (meaning.purity e)
-same = ind-Expr (λ e. SameOf (expr.purity e) (meaning.purity e)) (λ x y is. subst (λ z. SameOf (expr.purity (roll-Expr z)) (meaning.purity (roll-Expr z))) is (layer y))
+same = ind-Expr (λ e. SameOf (expr.purity e) (meaning.purity e)) (λ x y is. subst (λ z. SameOf (expr.purity (roll-Expr z)) (meaning.purity (roll-Expr z))) is (at y))
 
 -- a pure expression is affine
 pub affine_of_pure : (es : List Expr) → list_all expr.is_pure es ≡ true → list_all meaning.is_affine es ≡ true
