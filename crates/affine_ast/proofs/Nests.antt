@@ -1,5 +1,5 @@
 -- What a statement becomes among the statements of a list, one equation for each kind.
-use Rattle.std.proofs.Common.{◌≡◌, ℕ, ℤ, Bool, true, false, List, [], ◌∷◌, ◌++◌, map, refl, sym, ap, ◌∙◌}
+use Rattle.std.proofs.Common.{◌≡◌, ℕ, ℤ, true, false, List, [], ◌∷◌, ◌++◌, map, refl, sym, ap, ◌∙◌}
 use Rattle.std.specs.Prelude.{Option, Some, None}
 use Rattle.affine_expr.specs.declared.map.Set.{Set}
 use Rattle.int_ops.specs.declared.operation.CastKind.{CastKind}
@@ -13,9 +13,9 @@ use Rattle.affine_ast.specs.declared.types.Scalar.{Scalar}
 use Rattle.affine_ast.specs.declared.stmt.Stmt.{Stmt, fold-roll-Stmt}
 use Rattle.affine_ast.specs.declared.stmt.What as what
 use Rattle.affine_ast.specs.declared.stmt.What.{What, fold-roll-What}
-use Rattle.affine_ast.specs.declared.stmt.What.TheOpen.{What-F, Stmt-F}
+use Rattle.affine_ast.specs.declared.stmt.What.TheOpen.{What-F}
 use Rattle.affine_ast.specs.declared.stmt.What.TheVariants.{rolls-For, rolls-If, rolls-Value, rolls-Load, rolls-Store, rolls-RawLoad, rolls-RawStore, rolls-Constant, rolls-Binary, rolls-Cast, rolls-Alloc, rolls-Dealloc, rolls-Start, rolls-Wait, rolls-Return}
-use Rattle.affine_ast.specs.Nest.{Plain, Nest, Nothing, Loop, Branch, Does, Value, Load, Store, RawLoad, RawStore, Constant, Binary, Cast, Alloc, Dealloc, Start, Wait, Return, followed_by, Puts, joined, put_layer, put_stmt_layer, put_what, put_stmt, nest}
+use Rattle.affine_ast.specs.Nest.{Nest, Nothing, Loop, Branch, Does, Value, Load, Store, RawLoad, RawStore, Constant, Binary, Cast, Alloc, Dealloc, Start, Wait, Return, followed_by, Puts, joined, put_layer, put_stmt_layer, put_what, put_stmt, nest}
 
 -- the statements of a list, each put before the next
 pub joined_is : (ss : List Stmt) → joined (map put_stmt ss) ≡ nest ss

@@ -1,3 +1,10 @@
 pub mod Names
 pub mod Nest
 pub mod Spelling
+pub mod Sizes
+pub mod Intervals
+pub mod Scope
+pub mod Rules
+pub mod Validity
+pub mod PlainLimits
+pub mod PlainCode

@@ -1,4 +1,5 @@
 -- Memories of a module: what fits it, and what its names stand for at the start.
+pub use Rattle.affine_ast.specs.Intervals.{range_or}
 use Rattle.std.specs.Prelude.{◌≡◌, ℕ, suc, ◌+◌, ℤ, pos, ◌≤ℤ◌, List, [], ◌∷◌, length, drop, flat_map, fold, All, Option, Some, None, slice_index_or}
 use Rattle.affine_expr.specs.declared.map.Interval.{Interval}
 use Rattle.affine_ast.specs.declared.name.Name.{Name}
@@ -18,11 +19,6 @@ use Rattle.nest_meaning.specs.Actions.{actions}
 -- the slow list: the elements of the memref arguments in order, each row-major
 abbrev pub slow_list : List Cells → List ℤ
 slow_list memrefs = flat_map (λ cells. cells.values) memrefs
-
--- the range of an index argument; from 0 to 1,048,576 where none is written
-abbrev pub range_or : Option Interval → Interval
-range_or (Some range) = range
-range_or None = record { least = pos 0; greatest = pos 1048576 }
 
 pub record InInterval (range : Interval) (z : ℤ) : Type 0 where
   pub low : range.least ≤ℤ z

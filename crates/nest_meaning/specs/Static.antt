@@ -1,4 +1,5 @@
 -- What is known before the first cell is read: the numbers of names, what memrefs stand for, and places.
+pub use Rattle.affine_ast.specs.Sizes.{element_bits, scalar_bits, product}
 use Rattle.std.specs.Prelude.{ℕ, ◌+◌, ◌*◌, ℤ, pos, negsuc, Bool, List, [], ◌∷◌, map, take, drop, fold, Option, Some, None, nat_lt, if◌then◌else◌, slice_index_or}
 use Rattle.std.specs.Int.{int_min, int_max}
 use Rattle.affine_expr.specs.declared.map.Set.{Set}
@@ -18,22 +19,11 @@ use Rattle.affine_ast.specs.declared.types.Scalar.TheVariants.{Int, Index}
 use Rattle.affine_ast.specs.Names.{put}
 use Rattle.nest_meaning.specs.Action.{Home, SlowMemref, FastMemref, TagMemref, Place, Slow, Fast, Outside, Operand, Number, Register}
 
-abbrev pub element_bits : Element → ℕ
-element_bits I8 = 8
-element_bits I16 = 16
-element_bits I32 = 32
-element_bits I64 = 64
-
 abbrev pub element_bytes : Element → ℕ
 element_bytes I8 = 1
 element_bytes I16 = 2
 element_bytes I32 = 4
 element_bytes I64 = 8
-
--- `index` has 64 bits
-abbrev pub scalar_bits : Scalar → ℕ
-scalar_bits (Int e) = element_bits e
-scalar_bits Index = 64
 
 -- what stands round a statement. It goes down the text: each turn of a loop begins with the loop's own, and nothing that
 -- a region makes known leaves it
@@ -102,10 +92,6 @@ upper_of e (bound.Map at) = least (results_of e at)
 -- whether a condition is true
 unfoldable pub holds_at : Env → Set → List Name → Bool
 holds_at e set names = holds (take set.dims (numbers e names)) (drop set.dims (numbers e names)) set
-
-abbrev pub product : List ℕ → ℕ
-product [] = 1
-product (n ∷ ns) = n * product ns
 
 -- a subscript that lies from 0 up to, and not including, a size
 abbrev pub within : ℤ → ℕ → Option ℕ

@@ -1,4 +1,6 @@
 -- The work of a module: a bound on the number of its actions, from the text alone.
+pub use Rattle.affine_ast.specs.Intervals.{Ranges, ranges_at, over_all, pick_range, picked_range, turn_range}
+unfoldable pub use Rattle.affine_ast.specs.Intervals.{first_turn, last_end}
 use Rattle.std.specs.Prelude.{ℕ, ◌+◌, ◌*◌, ◌^◌, min, max, ℤ, pos, ◌-ℤ◌, List, [], ◌∷◌, map, take, drop, fold, slice_index_or}
 use Rattle.std.specs.Int.{int_min, int_max}
 use Rattle.affine_expr.specs.Value.{ceil_div}
@@ -19,42 +21,6 @@ use Rattle.affine_ast.specs.Names.{put}
 use Rattle.affine_ast.specs.Nest.{Plain, Nest, Nothing, Loop, Branch, Does, Value, Load, RawLoad, Constant, Binary, Cast, Start, nest}
 use Rattle.nest_meaning.specs.Turns.{gap}
 use Rattle.nest_meaning.specs.Memory.{range_or}
-
--- the range of each name that has a number
-abbrev pub Ranges : Type 0
-Ranges = Name → Range
-
-abbrev pub ranges_at : Ranges → Access → List Range
-ranges_at rho at = map (range_of (take at.map.dims (map rho at.operands)) (drop at.map.dims (map rho at.operands))) at.map.results
-
-abbrev pub over_all : (ℤ → ℤ → ℤ) → List ℤ → ℤ
-over_all choose [] = pos 0
-over_all choose (z ∷ zs) = fold choose z zs
-
--- the least, or the greatest, of the least and of the greatest values
-abbrev pub pick_range : (ℤ → ℤ → ℤ) → List Range → Range
-pick_range choose rs = record { least = over_all choose (map (λ r. r.least) rs); greatest = over_all choose (map (λ r. r.greatest) rs) }
-
-abbrev pub picked_range : Pick → List Range → Range
-picked_range Apply rs = slice_index_or rs 0 (only (pos 0))
-picked_range Min rs = pick_range int_min rs
-picked_range Max rs = pick_range int_max rs
-
--- the greatest of the lower results' least values
-unfoldable pub first_turn : Ranges → Bound → ℤ
-first_turn rho (bound.Int z) = z
-first_turn rho (bound.Value n) = (rho n).least
-first_turn rho (bound.Map at) = over_all int_max (map (λ r. r.least) (ranges_at rho at))
-
--- the least of the upper results' greatest values
-unfoldable pub last_end : Ranges → Bound → ℤ
-last_end rho (bound.Int z) = z
-last_end rho (bound.Value n) = (rho n).greatest
-last_end rho (bound.Map at) = over_all int_min (map (λ r. r.greatest) (ranges_at rho at))
-
--- a loop variable between these
-abbrev pub turn_range : ℤ → ℤ → Range
-turn_range a b = record { least = a; greatest = int_max a (b -ℤ pos 1) }
 
 -- how many turns: max(0, ceil((b - a) / step))
 abbrev pub turn_count : ℤ → ℤ → ℤ → ℕ

@@ -1,0 +1,8 @@
+use Rattle.std.proofs.Common.{refl}
+use Rattle.affine_ast.specs.Nest.{Load}
+use Rattle.affine_verify.proofs.PlainlyLaws.{not_true, plainly_defined}
+use Rattle.affine_verify.proofs.plain.load_stmt.Goals as goal
+
+pub returns : goal.returns
+returns c = λ rest.
+    plainly_defined c.defined.result c.args.line (Load c.args.into.now c.args.memref.now c.args.at.now c.args.ty.now) rest c.args.into.now _ c.args.scoped.now c.defined.new.scoped c.in_ok-rule.rule (c.in_ok-rule.ensures rest) c.defined.ensures (refl) (λ h. not_true _ h)

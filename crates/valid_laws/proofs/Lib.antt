@@ -1,0 +1,2 @@
+pub mod Purities
+pub mod Passing
