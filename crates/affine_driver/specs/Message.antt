@@ -2,7 +2,7 @@
 use Rattle.std.specs.Prelude.{ℕ, List, [], ◌++◌, codes}
 use Rattle.std.specs.Fmt.{decimal}
 use Rattle.affine_driver.specs.declared.ending.Ending.{Ending}
-use Rattle.affine_driver.specs.declared.ending.Ending.TheVariants.{Done, Words, ReadFault, TooLong, Text, Unbuilt, WriteFault, Memory}
+use Rattle.affine_driver.specs.declared.ending.Ending.TheVariants.{Done, Words, ReadFault, TooLong, Text, Invalid, Unbuilt, WriteFault, Memory}
 
 abbrev pub status_of : Ending → ℕ
 status_of Done = 0
@@ -10,6 +10,7 @@ status_of Words = 1
 status_of ReadFault = 2
 status_of TooLong = 3
 status_of (Text line column) = 4
+status_of (Invalid line rule) = 5
 status_of WriteFault = 8
 status_of Memory = 9
 status_of Unbuilt = 11
@@ -21,6 +22,7 @@ message_of Words = codes "affine: words"
 message_of ReadFault = codes "affine: read fault"
 message_of TooLong = codes "affine: source too long"
 message_of (Text line column) = codes "affine: text " ++ (decimal line ++ (codes ":" ++ decimal column))
+message_of (Invalid line rule) = codes "affine: invalid line " ++ (decimal line ++ (codes " rule V" ++ decimal rule))
 message_of Unbuilt = codes "affine: not built"
 message_of WriteFault = codes "affine: write fault"
 message_of Memory = codes "affine: out of memory"

@@ -1,5 +1,5 @@
 -- What a command writes.
-use Rattle.std.specs.Prelude.{◌≡◌, ℕ, ◌*◌, Bool, true, false, List, ◌++◌, nat_eq, if◌then◌else◌, codes}
+use Rattle.std.specs.Prelude.{◌≡◌, ℕ, ◌*◌, Bool, true, false, List, ◌++◌, None, nat_eq, if◌then◌else◌, codes}
 use Rattle.std.specs.Fmt.{decimal}
 use Rattle.std.specs.List.{flat_map}
 use Rattle.affine_ast.specs.declared.module.Module.{Module}
@@ -8,6 +8,8 @@ use Rattle.affine_ast.specs.Spelling.{name_text, spelling}
 use Rattle.first_path.specs.declared.place.Placement.{Placement}
 use Rattle.first_path.specs.declared.stage.Staged.{Staged}
 use Rattle.first_path.specs.Law.{IsStagedBy, RunsAs}
+use Rattle.affine_ast.specs.Validity.{IsValid}
+use Rattle.affine_ast.specs.PlainLimits.{plain_fault}
 use Rattle.affine_grammar.specs.Spelling.{Spells}
 use Rattle.affine_driver.specs.declared.command.Command.{Command}
 use Rattle.affine_driver.specs.declared.command.Command.TheVariants.{Check, Stage}
@@ -50,8 +52,14 @@ abbrev pub Writes : Command → Module → List ℕ → Type 0
 Writes Check input output = output ≡ spelling input
 Writes Stage input output = IsStageOutput input output
 
--- the output of the bytes under a command: that of the module which they spell
+-- the module meets the rules of validity that the command asks for: V1 to V12, and to be staged V13
+abbrev pub Meets : Command → Module → Type 0
+Meets Check input = IsValid input
+Meets Stage input = IsValid input × (plain_fault input ≡ None)
+
+-- the output of the bytes under a command: that of the valid module which they spell
 pub record IsOutput (command : Command) (bytes output : List ℕ) : Type 0 where
   pub input : Module
   pub spelled : Spells bytes input
+  pub valid : Meets command input
   pub writes : Writes command input output

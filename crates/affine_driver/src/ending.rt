@@ -18,7 +18,10 @@ pub enum Ending {
     /// The text spells no module: the first token that no module can have there stands at this line and column, counted
     /// from 1, the column in bytes.
     Text { line: u32, column: u32 },
-    /// The text spells a module that isn't of the first form.
+    /// The module breaks a rule of validity: the line of the first argument or statement that breaks one, counted from 1, and
+    /// the number of the lowest that it breaks.
+    Invalid { line: u32, rule: u8 },
+    /// The module isn't of the first form.
     Unbuilt,
     /// The sink failed; what it took is a prefix of the output.
     WriteFault,
@@ -37,6 +40,7 @@ impl Ending {
             Ending::ReadFault => 2,
             Ending::TooLong => 3,
             Ending::Text { .. } => 4,
+            Ending::Invalid { .. } => 5,
             Ending::WriteFault => 8,
             Ending::Memory => 9,
             Ending::Unbuilt => 11,
@@ -54,6 +58,7 @@ impl fmt::Display for Ending {
             Ending::ReadFault => write!(f, "affine: read fault"),
             Ending::TooLong => write!(f, "affine: source too long"),
             Ending::Text { line, column } => write!(f, "affine: text {line}:{column}"),
+            Ending::Invalid { line, rule } => write!(f, "affine: invalid line {line} rule V{rule}"),
             Ending::Unbuilt => write!(f, "affine: not built"),
             Ending::WriteFault => write!(f, "affine: write fault"),
             Ending::Memory => write!(f, "affine: out of memory"),
