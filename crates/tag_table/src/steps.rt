@@ -1,5 +1,5 @@
 // The atomic steps, on the raw seats.
-ghost use Rattle.std.specs.Prelude.{◌≡◌, ◌≢◌, ℕ, ◌<◌, ◌≤◌, ◌+◌, List, [], ◌∷◌, Some, None, length, true, false, MatchResult};
+ghost use Rattle.std.specs.Prelude.{◌≡◌, ◌≢◌, ℕ, ℤ, ◌<◌, ◌≤◌, ◌+◌, ◌^◌, List, [], ◌∷◌, Some, None, length, true, false, MatchResult, slice_set, if◌then◌else◌};
 ghost use Rattle.std.specs.Bool.{MatchBool};
 ghost use Rattle.bus_model.specs.Places.{slow_place};
 ghost use Rattle.bus_model.specs.Copies.{number_at};
@@ -8,16 +8,20 @@ ghost use Rattle.tag_table.specs.declared.view.ComputeView.{ComputeView};
 ghost use Rattle.tag_table.specs.declared.view.EngineView.{EngineView};
 ghost use Rattle.tag_table.specs.declared.view.View.TheVariants.{Compute, Engine};
 ghost use Rattle.tag_table.specs.Rule.{started_at, job, FitsIn, Sized, ClearOfOut, ClearOfAll, MayGo};
-ghost use Rattle.tag_table.specs.Steps.{met_more, working, holding, stored, start_in, start_out, collected, not_yet};
+ghost use Rattle.tag_table.specs.Steps.{met_more, working, holding, stored, start_in, start_out, after_collect, not_yet};
 
 use crate::view::{Parcel, RawSeat, View, Words};
 use atomic_table::Play;
 use bus_model::Transfer;
 
 const FREE: u64 = 0;
+
 const READY: u64 = 1;
+
 const TAKEN: u64 = 2;
+
 const DONE: u64 = 3;
+
 const HELD: u64 = 4;
 
 // A load of a slow word by the compute thread.
@@ -69,18 +73,18 @@ impl Play<Option<Parcel>, View> for Takes {
 pub(crate) struct MovesIn;
 
 impl Play<Option<Parcel>, View> for MovesIn {
-    ghost use Rattle.tag_table.specs.Steps.{moved_in};
+    ghost use Rattle.tag_table.specs.Steps.{moved_one_in};
 
-    ghost then = { moved_in };
+    ghost then = { moved_one_in };
 }
 
 // A store of a slow word by an engine.
 pub(crate) struct MovesOut;
 
 impl Play<Option<Parcel>, View> for MovesOut {
-    ghost use Rattle.tag_table.specs.Steps.{moved_out};
+    ghost use Rattle.tag_table.specs.Steps.{moved_one_out};
 
-    ghost then = { moved_out };
+    ghost then = { moved_one_out };
 }
 
 // DONE over TAKEN: the parcel goes home.
@@ -173,7 +177,12 @@ pub(crate) fn start(words: &Words, seat: &mut RawSeat, tags: u32, tag: u32, parc
 }
 
 // The parcel of a tag that is ready, or the word that was found.
-pub(crate) fn take_tag(words: &Words, seat: &mut RawSeat, tags: u32, tag: u32) -> Result<Parcel, u64>
+pub(crate) fn take_tag(
+    words: &Words,
+    seat: &mut RawSeat,
+    tags: u32,
+    tag: u32,
+) -> Result<Parcel, u64>
     requires seat { (seat.old.table_id ≡ words.now.table_id) × Sized words.now.table_id words.now.key tags }
     requires tag { tag < tags }
     requires view { (e : EngineView) × (seat.old.me ≡ (Engine e, [])) × (e.work ≡ None) }
@@ -190,6 +199,17 @@ pub(crate) fn take_tag(words: &Words, seat: &mut RawSeat, tags: u32, tag: u32) -
     }
 }
 
+// The slow place of an element.
+fn place_of(x: &Transfer, element: u32) -> usize
+    requires chunk { 1 ≤ x.now.chunk }
+    requires fits { slow_place x.now element < 2 ^ 64 }
+    ensures { result ≡ slow_place x.now element }
+{
+    x.base as usize
+        + (element / x.chunk) as usize * x.stride as usize
+        + (element % x.chunk) as usize
+}
+
 // Loads the next element into its cell.
 pub(crate) fn move_in(
     words: &Words,
@@ -202,11 +222,12 @@ pub(crate) fn move_in(
     requires seat { (seat.old.table_id ≡ words.now.table_id) × Sized words.now.table_id words.now.key tags }
     requires view { (e : EngineView) × (t : ℕ) × (seat.old.me ≡ (Engine e, (t, None) ∷ [])) × (e.work ≡ Some (job t x.now cells.old.items moved)) }
     requires next { (moved < x.now.count) × (x.now.incoming ≡ true) }
-    requires fits { FitsIn (length words.now.key.prompt.items) x.now cells.old.items }
+    requires fits { FitsIn (length words.now.key.prompt.items) x.now cells.old.items × (tags + length words.now.key.prompt.items < 2 ^ 64) }
     ensures same { (seat.new.table_id ≡ seat.old.table_id) × (seat.new.id ≡ seat.old.id) × (length cells.new.items ≡ length cells.old.items) }
+    ensures cell { (z : ℤ) × (cells.new.items ≡ slice_set cells.old.items (x.now.offset + moved) z) }
     ensures view { (e : EngineView) (t : ℕ) → seat.old.me ≡ (Engine e, (t, None) ∷ []) → e.work ≡ Some (job t x.now cells.old.items moved) → seat.new.me ≡ (working e (Some (job t x.now cells.new.items (moved + 1))), (t, None) ∷ []) }
 {
-    let place = slow_place(x, moved) as usize;
+    let place = place_of(x, moved);
     let cell = x.offset as usize + moved as usize;
     let found = words.load::<MovesIn>(seat, tags as usize + place);
     cells[cell] = found.cast_signed();
@@ -224,11 +245,11 @@ pub(crate) fn move_out(
     requires seat { (seat.old.table_id ≡ words.now.table_id) × Sized words.now.table_id words.now.key tags }
     requires view { (e : EngineView) × (t : ℕ) × (seat.old.me ≡ (Engine e, (t, None) ∷ [])) × (e.work ≡ Some (job t x.now cells.now.items moved)) }
     requires next { (moved < x.now.count) × (x.now.incoming ≡ false) }
-    requires fits { FitsIn (length words.now.key.prompt.items) x.now cells.now.items }
+    requires fits { FitsIn (length words.now.key.prompt.items) x.now cells.now.items × (tags + length words.now.key.prompt.items < 2 ^ 64) }
     ensures same { (seat.new.table_id ≡ seat.old.table_id) × (seat.new.id ≡ seat.old.id) }
     ensures view { (e : EngineView) (t : ℕ) → seat.old.me ≡ (Engine e, (t, None) ∷ []) → e.work ≡ Some (job t x.now cells.now.items moved) → seat.new.me ≡ (working e (Some (job t x.now cells.now.items (moved + 1))), (t, None) ∷ []) }
 {
-    let place = slow_place(x, moved) as usize;
+    let place = place_of(x, moved);
     let cell = x.offset as usize + moved as usize;
     words.store::<MovesOut>(seat, tags as usize + place, cells[cell].cast_unsigned());
 }
@@ -237,9 +258,11 @@ pub(crate) fn move_out(
 pub(crate) fn move_next(words: &Words, seat: &mut RawSeat, tags: u32, parcel: &mut Parcel) -> bool
     requires seat { (seat.old.table_id ≡ words.now.table_id) × Sized words.now.table_id words.now.key tags }
     requires view { (e : EngineView) × (t : ℕ) × (seat.old.me ≡ (Engine e, (t, None) ∷ [])) × (e.work ≡ Some (job t parcel.old.transfer parcel.old.cells.items parcel.old.moved)) }
-    requires fits { FitsIn (length words.now.key.prompt.items) parcel.old.transfer parcel.old.cells.items }
+    requires fits { FitsIn (length words.now.key.prompt.items) parcel.old.transfer parcel.old.cells.items × (tags + length words.now.key.prompt.items < 2 ^ 64) }
     ensures same { (seat.new.table_id ≡ seat.old.table_id) × (seat.new.id ≡ seat.old.id) × (parcel.new.transfer ≡ parcel.old.transfer) × (length parcel.new.cells.items ≡ length parcel.old.cells.items) }
     ensures more { MatchBool result ((parcel.old.moved < parcel.old.transfer.count) × (parcel.new.moved ≡ parcel.old.moved + 1)) ((parcel.old.transfer.count ≤ parcel.old.moved) × (parcel.new.moved ≡ parcel.old.moved)) }
+    ensures cells { result ≡ true → (z : ℤ) × (parcel.new.cells.items ≡ (if parcel.old.transfer.incoming then slice_set parcel.old.cells.items (parcel.old.transfer.offset + parcel.old.moved) z else parcel.old.cells.items)) }
+    ensures still { result ≡ false → parcel.new.cells.items ≡ parcel.old.cells.items }
     ensures view { (e : EngineView) (t : ℕ) → seat.old.me ≡ (Engine e, (t, None) ∷ []) → e.work ≡ Some (job t parcel.old.transfer parcel.old.cells.items parcel.old.moved) → seat.new.me ≡ (working e (Some (job t parcel.new.transfer parcel.new.cells.items parcel.new.moved)), (t, None) ∷ []) }
 {
     let Parcel {
@@ -277,12 +300,17 @@ pub(crate) fn give_back(words: &Words, seat: &mut RawSeat, tags: u32, tag: u32, 
 }
 
 // The parcel of a tag that is done, or the word that was found.
-pub(crate) fn try_collect(words: &Words, seat: &mut RawSeat, tags: u32, tag: u32) -> Result<Parcel, u64>
+pub(crate) fn try_collect(
+    words: &Words,
+    seat: &mut RawSeat,
+    tags: u32,
+    tag: u32,
+) -> Result<Parcel, u64>
     requires seat { (seat.old.table_id ≡ words.now.table_id) × Sized words.now.table_id words.now.key tags }
     requires tag { tag < tags }
     requires view { (v : ComputeView) × (st : Started) × (seat.old.me ≡ (Compute v, [])) × (v.held ≡ None) × (started_at v.tags tag ≡ Some st) }
     ensures same { (seat.new.table_id ≡ seat.old.table_id) × (seat.new.id ≡ seat.old.id) }
-    ensures collected { (v : ComputeView) (st : Started) → seat.old.me.0 ≡ Compute v → started_at v.tags tag ≡ Some st → MatchResult result (λ p. (p.transfer ≡ st.transfer) × (p.cells.items ≡ st.list) × (p.moved ≡ st.transfer.count) × (seat.new.me ≡ (Compute (holding (collected v tag 3) None), []))) (λ found. (found ≢ 3) × (seat.new.me ≡ (not_yet v tag found, []))) }
+    ensures collected { (v : ComputeView) (st : Started) → seat.old.me.0 ≡ Compute v → started_at v.tags tag ≡ Some st → MatchResult result (λ p. (p.transfer ≡ st.transfer) × (p.cells.items ≡ st.list) × (p.moved ≡ st.transfer.count) × (seat.new.me ≡ (Compute (after_collect v tag), []))) (λ found. (found ≢ 3) × (seat.new.me ≡ (not_yet v tag found, []))) }
 {
     let found = words.compare_exchange::<TakesDone>(seat, tag as usize, DONE, HELD);
     if found != DONE {
@@ -307,4 +335,3 @@ pub(crate) fn release(words: &Words, seat: &mut RawSeat, tags: u32, tag: u32)
 {
     words.store::<Frees>(seat, tag as usize, FREE);
 }
-
