@@ -62,11 +62,7 @@ fn put_directions(out: &mut Vec<u8>, writes: bool) -> Result<(), AllocError>
 
 /// Whether the memref is staged, and how, or why not.
 #[tactic(auto, unfolding(crate::specs::Output::decision_text))]
-fn put_decision(
-    alloc: Global,
-    out: &mut Vec<u8>,
-    placed: &Placement,
-) -> Result<(), AllocError>
+fn put_decision(alloc: Global, out: &mut Vec<u8>, placed: &Placement) -> Result<(), AllocError>
     ensures { OnOk result (out.new.items ≡ out.old.items ++ decision_text placed.now) }
 {
     if placed.extent == 0 {

@@ -38,9 +38,9 @@ module _ (low high : ℤ) where
   abbrev pub turn_count : ℕ
   turn_count = gap (high -ℤ low)
 
-  -- the window of a memref of this size, at whose elements the loop's turns are the subscripts. It has an element for each
-  -- turn, at most all. It begins at the first turn, but where it wouldn't lie in the memref, then as near as it can: at
-  -- max(0, min(low, size - extent))
+  -- the window of a memref of this size: the elements of which the loop's turns are the subscripts. It has one for each
+  -- turn, at most all that there are. It begins at the first turn or, where it would stick out of the memref, as near to it
+  -- as it fits: at max(0, min(low, size - extent))
   abbrev pub window_extent : ℕ → ℕ
   window_extent size = min turn_count size
 
