@@ -71,13 +71,7 @@ fn literal_depth(value: i64, place: Place) -> u32
     ensures { result ≡ depth_at place (literal_depths value) }
 {
     match place {
-        Place::Negated => {
-            if value < 0 {
-                0
-            } else {
-                1
-            }
-        }
+        Place::Negated => { if value < 0 { 0 } else { 1 } }
         Place::Sum => 0,
         Place::Product => 0,
         Place::Unary => 0,
@@ -125,12 +119,36 @@ fn depth(expr: &Expr, place: Place) -> u32
         Expr::Sym(_) => 0,
         Expr::Const(value) => literal_depth(*value, place),
         Expr::Neg(part) => deeper(depth(part.get(), Place::Negated)),
-        Expr::Add(left, right) => depth_of_sum(depth(left.get(), Place::Sum), depth(right.get(), Place::Product), place),
-        Expr::Sub(left, right) => depth_of_sum(depth(left.get(), Place::Sum), depth(right.get(), Place::Product), place),
-        Expr::Mul(left, right) => depth_of_product(depth(left.get(), Place::Product), depth(right.get(), Place::Unary), place),
-        Expr::FloorDiv(left, right) => depth_of_product(depth(left.get(), Place::Product), depth(right.get(), Place::Unary), place),
-        Expr::CeilDiv(left, right) => depth_of_product(depth(left.get(), Place::Product), depth(right.get(), Place::Unary), place),
-        Expr::Mod(left, right) => depth_of_product(depth(left.get(), Place::Product), depth(right.get(), Place::Unary), place),
+        Expr::Add(left, right) => depth_of_sum(
+            depth(left.get(), Place::Sum),
+            depth(right.get(), Place::Product),
+            place,
+        ),
+        Expr::Sub(left, right) => depth_of_sum(
+            depth(left.get(), Place::Sum),
+            depth(right.get(), Place::Product),
+            place,
+        ),
+        Expr::Mul(left, right) => depth_of_product(
+            depth(left.get(), Place::Product),
+            depth(right.get(), Place::Unary),
+            place,
+        ),
+        Expr::FloorDiv(left, right) => depth_of_product(
+            depth(left.get(), Place::Product),
+            depth(right.get(), Place::Unary),
+            place,
+        ),
+        Expr::CeilDiv(left, right) => depth_of_product(
+            depth(left.get(), Place::Product),
+            depth(right.get(), Place::Unary),
+            place,
+        ),
+        Expr::Mod(left, right) => depth_of_product(
+            depth(left.get(), Place::Product),
+            depth(right.get(), Place::Unary),
+            place,
+        ),
     }
 }
 

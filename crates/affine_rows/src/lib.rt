@@ -13,3 +13,5 @@ mod streams;
 mod systems;
 #[cfg(test)]
 mod texts;
+#[cfg(test)]
+mod validity;

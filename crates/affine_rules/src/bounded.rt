@@ -50,7 +50,11 @@ pub fn interval_of<'a>(names: &Names<'a>, name: &'a Name) -> Interval
 }
 
 /// The intervals of operands, in order.
-pub fn intervals_of<'a>(alloc: Global, names: &Names<'a>, used: &'a [Name]) -> Result<Vec<Interval>, AllocError>
+pub fn intervals_of<'a>(
+    alloc: Global,
+    names: &Names<'a>,
+    used: &'a [Name],
+) -> Result<Vec<Interval>, AllocError>
     ensures { IfOk result (λ found. ranges found.items ≡ map (ranges_in (scope_of names.now.entries)) used.now) }
 {
     let mut intervals = Vec::new(alloc);
@@ -111,7 +115,11 @@ pub fn parted_intervals(dims: u32, intervals: &[Interval]) -> (&[Interval], &[In
     intervals.split_at(dims)
 }
 
-pub fn access_bounded<'a>(alloc: Global, names: &Names<'a>, at: &'a Access) -> Result<bool, AllocError>
+pub fn access_bounded<'a>(
+    alloc: Global,
+    names: &Names<'a>,
+    at: &'a Access,
+) -> Result<bool, AllocError>
     requires fits { map_fits at.now ≡ true }
     requires pure { access_pure at.now ≡ true }
     ensures { IfOk result (λ bounded. bounded ≡ access_bounded (scope_of names.now.entries) at.now) }
@@ -126,7 +134,12 @@ pub fn access_bounded<'a>(alloc: Global, names: &Names<'a>, at: &'a Access) -> R
     Ok(have_intervals(at.map.results.as_slice(), dims, syms))
 }
 
-pub fn set_bounded<'a>(alloc: Global, names: &Names<'a>, set: &Set, operands: &'a [Name]) -> Result<bool, AllocError>
+pub fn set_bounded<'a>(
+    alloc: Global,
+    names: &Names<'a>,
+    set: &Set,
+    operands: &'a [Name],
+) -> Result<bool, AllocError>
     requires fits { set_fits set.now operands.now ≡ true }
     requires pure { set_pure set.now ≡ true }
     ensures { IfOk result (λ bounded. bounded ≡ set_bounded (scope_of names.now.entries) set.now operands.now) }
@@ -140,7 +153,11 @@ pub fn set_bounded<'a>(alloc: Global, names: &Names<'a>, set: &Set, operands: &'
     Ok(rows_have_intervals(set.rows.as_slice(), dims, syms))
 }
 
-pub fn bound_bounded<'a>(alloc: Global, names: &Names<'a>, bound: &'a Bound) -> Result<bool, AllocError>
+pub fn bound_bounded<'a>(
+    alloc: Global,
+    names: &Names<'a>,
+    bound: &'a Bound,
+) -> Result<bool, AllocError>
     requires fits { bound_fits bound.now ≡ true }
     requires pure { bound_pure bound.now ≡ true }
     ensures { IfOk result (λ bounded. bounded ≡ bound_bounded (scope_of names.now.entries) bound.now) }

@@ -8,12 +8,13 @@ ghost use Rattle.affine_rules.specs.Scoped.{around_of, scope_of};
 
 use crate::bounded::{access_bounded, bound_bounded, set_bounded};
 use crate::lookup::{
-    Names, are_in, are_indexes, are_values, constant_of, is_allocated, is_dimension, is_in, is_memref_of, is_of, is_value, operands_stand,
+    Names, are_in, are_indexes, are_values, constant_of, is_allocated, is_dimension, is_in,
+    is_memref_of, is_of, is_value, operands_stand,
 };
 use crate::scope::{Scoped, is_released};
 use crate::shapes::{
-    access_pure, allocates_well, bound_fits, bound_pure, casts_between, constant_fits, is_loadable, map_fits, results_fit, set_fits, set_pure,
-    shape_within, subscripts_fit,
+    access_pure, allocates_well, bound_fits, bound_pure, casts_between, constant_fits, is_loadable,
+    map_fits, results_fit, set_fits, set_pure, shape_within, subscripts_fit,
 };
 use affine_ast::{Access, Bound, MemrefType, Name, Pick, Scalar};
 use affine_expr::Set;
@@ -201,7 +202,10 @@ pub fn rule_of_raw_store<'a>(
     if !(is_value(names, value) && are_values(names, at)) {
         return Some(4);
     }
-    if !(is_of(names, value, Scalar::Int(ty.element)) && is_memref_of(names, memref, ty) && are_indexes(names, at)) {
+    if !(is_of(names, value, Scalar::Int(ty.element))
+        && is_memref_of(names, memref, ty)
+        && are_indexes(names, at))
+    {
         return Some(5);
     }
     if at.len() != ty.sizes.len() {
@@ -287,11 +291,7 @@ pub fn rule_of_cast<'a>(
 }
 
 #[tactic(auto, unfolding(affine_ast::specs::Validity::rule_of_plain))]
-pub fn rule_of_dealloc<'a>(
-    scoped: &Scoped<'a>,
-    memref: &'a Name,
-    ty: &'a MemrefType,
-) -> Option<u8>
+pub fn rule_of_dealloc<'a>(scoped: &Scoped<'a>, memref: &'a Name, ty: &'a MemrefType) -> Option<u8>
     ensures { (rest : Nest) → result ≡ rule_of_plain (around_of scoped.now) (plain.Dealloc memref.now ty.now) rest }
 {
     let names = &scoped.names;

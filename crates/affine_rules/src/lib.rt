@@ -14,10 +14,13 @@ mod scope;
 mod shapes;
 mod transfers;
 
-pub use bounded::{access_bounded, bound_bounded, interval_of, intervals_of, parted_intervals, set_bounded};
+pub use bounded::{
+    access_bounded, bound_bounded, interval_of, intervals_of, parted_intervals, set_bounded,
+};
 pub use kinds::{
-    rule_of_binary, rule_of_cast, rule_of_constant, rule_of_dealloc, rule_of_load, rule_of_raw_load, rule_of_raw_store, rule_of_return,
-    rule_of_store, rule_of_value, rule_of_wait, text_rule,
+    rule_of_binary, rule_of_cast, rule_of_constant, rule_of_dealloc, rule_of_load,
+    rule_of_raw_load, rule_of_raw_store, rule_of_return, rule_of_store, rule_of_value,
+    rule_of_wait, text_rule,
 };
 pub use lookup::{Names, is_in, is_small};
 pub use regions::{rule_of_condition, rule_of_loop};

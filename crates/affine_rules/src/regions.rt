@@ -46,7 +46,12 @@ fn bounds_pure(lower: &Bound, upper: &Bound, step: i64) -> Result<bool, AllocErr
     Ok(0 < step)
 }
 
-fn bounds_bounded<'a>(alloc: Global, names: &Names<'a>, lower: &'a Bound, upper: &'a Bound) -> Result<bool, AllocError>
+fn bounds_bounded<'a>(
+    alloc: Global,
+    names: &Names<'a>,
+    lower: &'a Bound,
+    upper: &'a Bound,
+) -> Result<bool, AllocError>
     requires lower_fits { bound_fits lower.now ≡ true }
     requires upper_fits { bound_fits upper.now ≡ true }
     requires lower_pure { bound_pure lower.now ≡ true }

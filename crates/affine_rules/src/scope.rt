@@ -72,7 +72,11 @@ pub fn found<'t, 'a>(names: &'t IndexMap<Key<'a>, Binding>, name: &'a Name) -> O
 }
 
 /// Puts a name in scope that isn't.
-pub fn define<'a>(names: &mut IndexMap<Key<'a>, Binding>, name: &'a Name, binding: Binding) -> Result<(), AllocError>
+pub fn define<'a>(
+    names: &mut IndexMap<Key<'a>, Binding>,
+    name: &'a Name,
+    binding: Binding,
+) -> Result<(), AllocError>
     requires { scope_of names.old.entries name.now ≡ None }
     ensures scope { OnOk result (scope_of names.new.entries ≡ put (scope_of names.old.entries) name.now (Some (binding_of binding))) }
     ensures kept { OnOk result (take (length names.old.entries) names.new.entries ≡ names.old.entries) }

@@ -59,7 +59,13 @@ fn stride_well<'a>(names: &Names<'a>, stride: &'a Stride) -> bool
     }
 }
 
-fn ends_typed<'a>(names: &Names<'a>, from: &'a Name, to: &'a Name, tag: &'a Name, types: &'a [MemrefType; 3]) -> bool
+fn ends_typed<'a>(
+    names: &Names<'a>,
+    from: &'a Name,
+    to: &'a Name,
+    tag: &'a Name,
+    types: &'a [MemrefType; 3],
+) -> bool
     ensures { result ≡ ends_typed (scope_of names.now.entries) from.now to.now tag.now types.now }
 {
     let [source, destination, tags] = types;
@@ -74,14 +80,19 @@ fn ends_fit(from_at: &Access, to_at: &Access, tag_at: &Access, types: &[MemrefTy
     ensures maps { result ≡ true → (map_fits from_at.now ≡ true) × (map_fits to_at.now ≡ true) × (map_fits tag_at.now ≡ true) }
 {
     let [source, destination, tags] = types;
-    subscripts_fit(from_at, source) && subscripts_fit(to_at, destination) && subscripts_fit(tag_at, tags)
+    subscripts_fit(from_at, source)
+        && subscripts_fit(to_at, destination)
+        && subscripts_fit(tag_at, tags)
 }
 
 fn ends_in_spaces(types: &[MemrefType; 3]) -> bool
     ensures { result ≡ ends_in_spaces types.now }
 {
     let [source, destination, tags] = types;
-    source.space <= 1 && destination.space <= 1 && source.space + destination.space == 1 && tags.space == 2
+    source.space <= 1
+        && destination.space <= 1
+        && source.space + destination.space == 1
+        && tags.space == 2
 }
 
 fn ends_pure(from_at: &Access, to_at: &Access, tag_at: &Access) -> Result<bool, AllocError>

@@ -13,8 +13,9 @@ use crate::totals::{allocation_fits, with_allocation};
 use crate::values::picked;
 use affine_ast::{Access, MemrefType, Name, Pick, Scalar, Stmt};
 use affine_rules::{
-    Binding, Scoped, allocates_well, define, is_in, is_released, release, rule_of_binary, rule_of_cast, rule_of_constant, rule_of_dealloc,
-    rule_of_load, rule_of_raw_load, rule_of_value, text_rule,
+    Binding, Scoped, allocates_well, define, is_in, is_released, release, rule_of_binary,
+    rule_of_cast, rule_of_constant, rule_of_dealloc, rule_of_load, rule_of_raw_load, rule_of_value,
+    text_rule,
 };
 use int_ops::{CastKind, Op};
 use std::alloc::{AllocError, Global};
@@ -65,7 +66,13 @@ pub(crate) fn load_stmt<'a>(
     ensures { (rest : Nest) → Plainly result line (plain.Load into.now memref.now at.now ty.now) rest scoped.old scoped.new }
 {
     let rule = rule_of_load(alloc, scoped, into, memref, at, ty)?;
-    defined(line, rule, into, Binding::Data(Scalar::Int(ty.element)), scoped)
+    defined(
+        line,
+        rule,
+        into,
+        Binding::Data(Scalar::Int(ty.element)),
+        scoped,
+    )
 }
 
 pub(crate) fn raw_load_stmt<'a>(
@@ -79,7 +86,13 @@ pub(crate) fn raw_load_stmt<'a>(
     ensures { (rest : Nest) → Plainly result line (plain.RawLoad into.now memref.now at.now ty.now) rest scoped.old scoped.new }
 {
     let rule = rule_of_raw_load(scoped, into, memref, at, ty);
-    defined(line, rule, into, Binding::Data(Scalar::Int(ty.element)), scoped)
+    defined(
+        line,
+        rule,
+        into,
+        Binding::Data(Scalar::Int(ty.element)),
+        scoped,
+    )
 }
 
 fn constant_binding(value: i64, ty: Scalar) -> Binding
@@ -137,7 +150,12 @@ pub(crate) fn cast_stmt<'a>(
 
 /// The lowest rule that an allocation breaks.
 #[tactic(auto, unfolding(affine_ast::specs::Validity::rule_of_plain))]
-fn rule_of_alloc<'a>(scoped: &Scoped<'a>, into: &'a Name, ty: &MemrefType, rest: &[Stmt]) -> Option<u8>
+fn rule_of_alloc<'a>(
+    scoped: &Scoped<'a>,
+    into: &'a Name,
+    ty: &MemrefType,
+    rest: &[Stmt],
+) -> Option<u8>
     ensures { result ≡ rule_of_plain (around_of scoped.now) (plain.Alloc into.now ty.now) (nest rest.now) }
 {
     if is_in(&scoped.names, into) {

@@ -29,13 +29,7 @@ fn dealloc_of(what: &What, name: &Name) -> u32
     ensures small { result ≤ 1 }
 {
     match what {
-        What::Dealloc { memref, .. } => {
-            if names_same(memref, name) {
-                1
-            } else {
-                0
-            }
-        }
+        What::Dealloc { memref, .. } => { if names_same(memref, name) { 1 } else { 0 } }
         What::For { .. } => 0,
         What::If { .. } => 0,
         What::Value { .. } => 0,

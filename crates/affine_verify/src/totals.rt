@@ -58,7 +58,9 @@ pub(crate) fn argument_fits(totals: Totals, kind: &ArgKind) -> bool
                 return false;
             }
             let elements = elements_of(ty) as u64;
-            totals.memrefs < 64 && totals.indexes <= 16 && totals.elements as u64 + elements <= 1_048_576
+            totals.memrefs < 64
+                && totals.indexes <= 16
+                && totals.elements as u64 + elements <= 1_048_576
         }
         ArgKind::Index(_) => {
             totals.memrefs <= 64 && totals.indexes < 16 && totals.elements <= 1_048_576

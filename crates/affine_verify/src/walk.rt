@@ -9,13 +9,15 @@ ghost use Rattle.affine_verify.specs.Plains.{plain_of, is_region};
 
 use crate::fault::{VerifyFault, judged};
 use crate::plain::{
-    alloc_stmt, binary_stmt, cast_stmt, constant_stmt, dealloc_stmt, defined, load_stmt, raw_load_stmt, value_stmt,
+    alloc_stmt, binary_stmt, cast_stmt, constant_stmt, dealloc_stmt, defined, load_stmt,
+    raw_load_stmt, value_stmt,
 };
 use crate::values::turn_interval;
 use affine_ast::{Bound, Name, Stmt, What};
 use affine_expr::Set;
 use affine_rules::{
-    Binding, Scoped, rule_of_condition, rule_of_loop, rule_of_raw_store, rule_of_return, rule_of_start, rule_of_store, rule_of_wait,
+    Binding, Scoped, rule_of_condition, rule_of_loop, rule_of_raw_store, rule_of_return,
+    rule_of_start, rule_of_store, rule_of_wait,
 };
 use std::alloc::Global;
 
@@ -148,7 +150,10 @@ fn plain_stmt<'a>(
             memref,
             at,
             ty,
-        } => judged(line, rule_of_raw_store(scoped, value, memref, at.as_slice(), ty)),
+        } => judged(
+            line,
+            rule_of_raw_store(scoped, value, memref, at.as_slice(), ty),
+        ),
         What::Constant { result, value, ty } => constant_stmt(line, result, *value, *ty, scoped),
         What::Binary {
             result,
@@ -177,7 +182,9 @@ fn plain_stmt<'a>(
             stride,
             types,
         } => {
-            let rule = rule_of_start(alloc, scoped, from, from_at, to, to_at, tag, tag_at, count, stride, types)?;
+            let rule = rule_of_start(
+                alloc, scoped, from, from_at, to, to_at, tag, tag_at, count, stride, types,
+            )?;
             judged(line, rule)
         }
         What::Wait {
@@ -212,10 +219,14 @@ fn simple_stmt<'a>(
     plain_stmt(alloc, stmt.line, &stmt.what, rest, scoped)
 }
 
-
 #[cycle(walk)]
 #[tactic(auto, using(crate::proofs::Plains::plains))]
-fn step<'a>(alloc: Global, stmt: &'a Stmt, rest: &'a [Stmt], scoped: &mut Scoped<'a>) -> Result<(), VerifyFault>
+fn step<'a>(
+    alloc: Global,
+    stmt: &'a Stmt,
+    rest: &'a [Stmt],
+    scoped: &mut Scoped<'a>,
+) -> Result<(), VerifyFault>
     requires statements { scoped.old.totals.statements ≤ 65536 }
     requires loops { scoped.old.loops ≤ 17 }
     requires ifs { scoped.old.ifs ≤ 17 }
@@ -303,7 +314,11 @@ fn behind(stmts: &[Stmt], place: usize) -> &[Stmt]
 
 /// The statements of a list.
 #[cycle(walk)]
-pub(crate) fn list<'a>(alloc: Global, stmts: &'a [Stmt], scoped: &mut Scoped<'a>) -> Result<(), VerifyFault>
+pub(crate) fn list<'a>(
+    alloc: Global,
+    stmts: &'a [Stmt],
+    scoped: &mut Scoped<'a>,
+) -> Result<(), VerifyFault>
     requires statements { scoped.old.totals.statements ≤ 65536 }
     requires loops { scoped.old.loops ≤ 17 }
     requires ifs { scoped.old.ifs ≤ 17 }

@@ -171,7 +171,7 @@ arguments_passed (arg ∷ args) body a t h =
     let j = judged_passed arg.line (rule_of_argument a arg.name arg.kind) _ t h in
     arguments_passed args body (behind_argument arg.name arg.kind a) t j.1
 
-passed_of : (x : Told) → broken_of x ≡ None → (t : Totals) × (x ≡ Passed t)
+pub passed_of : (x : Told) → broken_of x ≡ None → (t : Totals) × (x ≡ Passed t)
 passed_of (Broken line number) h = absurd (let z : ⊥ = cc in z)
 passed_of (Passed t) h = (t, refl)
 

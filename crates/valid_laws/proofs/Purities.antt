@@ -20,7 +20,7 @@ record SameOf (p : expr.Purity) (q : meaning.Purity) : Type 0 where
 
 step : (y : Expr-F ((e : Expr) × SameOf (expr.purity e) (meaning.purity e)))
     → SameOf (expr.purity_step (map-Expr ((e : Expr) × SameOf (expr.purity e) (meaning.purity e)) expr.Purity (λ e. expr.purity e.0) y))
-      (meaning.purity_step (map-Expr ((e : Expr) × SameOf (expr.purity e) (meaning.purity e)) meaning.Purity (λ e. meaning.purity e.0) y))
+    (meaning.purity_step (map-Expr ((e : Expr) × SameOf (expr.purity e) (meaning.purity e)) meaning.Purity (λ e. meaning.purity e.0) y))
 step (Expr-F.Dim n) = record { fixed = refl; pure = refl }
 step (Expr-F.Sym n) = record { fixed = refl; pure = refl }
 step (Expr-F.Const z) = record { fixed = refl; pure = refl }

@@ -3,7 +3,13 @@ use Rattle.affine_ast.specs.declared.module.Module.{Module}
 use Rattle.affine_ast.specs.Nest.{nest}
 use Rattle.affine_ast.specs.Validity.{IsValid}
 use Rattle.nest_meaning.specs.Pure.{AffineNest}
+use Rattle.nest_meaning.specs.Work.{start_ranges}
+use Rattle.valid_laws.specs.Bounded.{BoundedNest}
 
 -- its bounds and values are affine, and its steps positive
 abbrev pub ValidIsAffine : Type 0
 ValidIsAffine = (m : Module) → IsValid m → AffineNest (nest m.body)
+
+-- all its affine values stay within 2 ^ 62, over the ranges of the names in scope
+abbrev pub ValidIsBounded : Type 0
+ValidIsBounded = (m : Module) → IsValid m → BoundedNest (nest m.body) (start_ranges m.args)

@@ -1,12 +1,18 @@
-//! Laws of a valid module, over the list of its actions: its bounds and values are affine and its steps positive.
+//! Laws of a valid module: its bounds and values are affine and its steps positive, and all its affine values stay within 2^62.
 //!
-//! The laws of ranges of `nest_meaning` ask for that. The crate stands on `affine_ast` and `nest_meaning`.
+//! The laws of ranges of `nest_meaning` ask for the first, and say that the numbers of a run lie in the ranges of the second. The crate stands on `affine_ast` and `nest_meaning`.
 #![tactic(auto)]
 
-ghost use Rattle.valid_laws.specs.Laws.{ValidIsAffine};
+ghost use Rattle.valid_laws.specs.Laws.{ValidIsAffine, ValidIsBounded};
 
 /// The bounds and the values of a valid module are affine, and its steps are positive: what the bound on the actions by the work and
 /// the ranges of the walk ask for.
 pub fn valid_is_affine()
     ensures { ValidIsAffine }
+{}
+
+/// The affine values of a valid module stay within 2^62, each part of an expression over the ranges of the names round it: the bounds
+/// of loops, the rows of conditions, the subscripts and the values of statements.
+pub fn valid_is_bounded()
+    ensures { ValidIsBounded }
 {}

@@ -60,7 +60,7 @@ stmt_fault-returns-in-Wait-clause-told t c =
 
 pub stmt_fault-returns-in-Return-clause-told : goal.stmt_fault-returns-in-Return-clause-told
 stmt_fault-returns-in-Return-clause-told t c =
-    λ rest. arm_at _ rest _ _ _ _ _ _ c.in-Return.is (plain-Return _ rest _ _ ) (c.plain_fault-in-Return.ensures.told (plain_told rest c.args.loops))
+    λ rest. arm_at _ rest _ _ _ _ _ _ c.in-Return.is (plain-Return _ rest _ _) (c.plain_fault-in-Return.ensures.told (plain_told rest c.args.loops))
 
 pub stmt_fault-returns-then-is_some-clause-told : goal.stmt_fault-returns-then-is_some-clause-told
 stmt_fault-returns-then-is_some-clause-told t c =

@@ -14,9 +14,8 @@ with_argument-totals-requires-clause-totals c = (argument_holds (around_of c.arg
 
 pub returns : goal.returns
 returns c =
-    let more = c.in_ok-defined.ensures.1 (not_true _ (argument_holds (around_of c.args.scoped.now) c.args.arg.now.name c.args.arg.now.kind (sym c.rule_of_argument-rule.ensures ∙ judged_ok _ _ _ c.in_ok-judged.ensures)).new_name) in
-    (
+    let more = c.in_ok-defined.ensures.1 (not_true _ (argument_holds (around_of c.args.scoped.now) c.args.arg.now.name c.args.arg.now.kind (sym c.rule_of_argument-rule.ensures ∙ judged_ok _ _ _ c.in_ok-judged.ensures)).new_name) in (
       sym c.rule_of_argument-rule.ensures ∙ c.in_ok-defined.ensures.0,
       (λ i. record (more.0 i) { totals = c.with_argument-totals.ensures i })
-      ∙ ap (λ b. with_name c.args.arg.now.name b (with_totals (with_argument c.args.arg.now.kind (totals_of c.args.scoped.now.totals)) (around_of c.args.scoped.now))) c.in_ok-binding.ensures,
+          ∙ ap (λ b. with_name c.args.arg.now.name b (with_totals (with_argument c.args.arg.now.kind (totals_of c.args.scoped.now.totals)) (around_of c.args.scoped.now))) c.in_ok-binding.ensures,
     )

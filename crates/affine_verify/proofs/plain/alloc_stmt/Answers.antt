@@ -15,10 +15,9 @@ with_allocation-totals-requires-clause-totals c = (both_held (shape_within c.arg
 pub returns : goal.returns
 returns c =
     let h = holds (around_of c.args.scoped.now) (Alloc c.args.into.now c.args.ty.now) (nest c.args.rest.now) (sym c.rule_of_alloc-rule.ensures ∙ judged_ok _ _ _ c.in_ok-judged.ensures) in
-    let more = c.in_ok-defined.ensures.1 (not_true _ h.new_name) in
-    (
+    let more = c.in_ok-defined.ensures.1 (not_true _ h.new_name) in (
       sym c.rule_of_alloc-rule.ensures ∙ c.in_ok-defined.ensures.0,
       (λ i. record (more.0 i) { totals = c.with_allocation-totals.ensures i })
-      ∙ ap (λ t. with_name c.args.into.now (Allocation t) (with_totals (totals_with c.args.ty.now (totals_of c.args.scoped.now.totals)) (around_of c.args.scoped.now))) c.in_ok-copied.ensures,
+          ∙ ap (λ t. with_name c.args.into.now (Allocation t) (with_totals (totals_with c.args.ty.now (totals_of c.args.scoped.now.totals)) (around_of c.args.scoped.now))) c.in_ok-copied.ensures,
       record { names = more.1.names; released = more.1.released; loops = more.1.loops; ifs = more.1.ifs },
     )

@@ -10,7 +10,7 @@ release-requires c = not_true _ (both_held (is_allocated (scope_of c.args.scoped
 
 pub returns : goal.returns
 returns c = λ rest. (
-      sym (c.rule_of_dealloc-rule.ensures rest) ∙ judged_ok _ _ _ c.in_ok-judged.ensures,
-      ap (λ r. record (around_of c.args.scoped.now) { released = r }) c.in_ok-release.ensures.names,
-      record { names = (extends_self c.args.scoped.now).names; released = c.in_ok-release.ensures.kept; loops = refl; ifs = refl },
-    )
+  sym (c.rule_of_dealloc-rule.ensures rest) ∙ judged_ok _ _ _ c.in_ok-judged.ensures,
+  ap (λ r. record (around_of c.args.scoped.now) { released = r }) c.in_ok-release.ensures.names,
+  record { names = (extends_self c.args.scoped.now).names; released = c.in_ok-release.ensures.kept; loops = refl; ifs = refl },
+)

@@ -15,7 +15,7 @@ unfolding access_pure
 intervals_at-requires-clause-pure c = ap (list_all is_pure) c.as_slice-3.ensures ∙ c.requires.pure
 
 pub intervals_at-requires-clause-leaves : goal.intervals_at-requires-clause-leaves
-intervals_at-requires-clause-leaves c = 
+intervals_at-requires-clause-leaves c =
     ap (list_all _) c.as_slice-3.ensures
     ∙ leaves_among (ranges_in (scope_of c.args.names.now.entries)) c.args.at.now c.in_ok-operands.operands.items c.parted_intervals.result.0.now c.parted_intervals.result.1.now
     (c.in_ok-operands.ensures ∙ ap (map (ranges_in (scope_of c.args.names.now.entries))) c.as_slice.ensures) c.requires.fits

@@ -26,8 +26,7 @@ pub returns-clause-entered : goal.returns-clause-entered
 returns-clause-entered c =
     let more = c.in_ok-defined.ensures.1 (not_true _ (loop_holds (around_of c.args.scoped.now) c.args.var.now c.args.lower.now c.args.upper.now c.args.step (sym (c.in_ok-rule.ensures ∙ ap (λ z. rule_of_loop (around_of c.args.scoped.now) c.args.var.now c.args.lower.now c.args.upper.now z) (to_z-of_z w64 c.args.step (let f : SFits w64 c.args.step = search rules in f))) ∙ judged_ok _ _ _ c.in_ok-judged.ensures)).new_name) in
     let kept = more.1.loops in
-    let one : c.defined.new.scoped.loops + 1 ≡ suc c.args.scoped.now.loops = omega (arith, kept) in
-    (
+    let one : c.defined.new.scoped.loops + 1 ≡ suc c.args.scoped.now.loops = omega (arith, kept) in (
       sym (c.in_ok-rule.ensures ∙ ap (λ z. rule_of_loop (around_of c.args.scoped.now) c.args.var.now c.args.lower.now c.args.upper.now z) (to_z-of_z w64 c.args.step (let f : SFits w64 c.args.step = search rules in f))) ∙ judged_ok _ _ _ c.in_ok-judged.ensures,
       (λ i. record (more.0 i) { loops = one i }) ∙ ap (λ r. record (with_name c.args.var.now (Variable r) (around_of c.args.scoped.now)) { loops = suc c.args.scoped.now.loops }) c.in_ok-turns.ensures,
       more.1.names,
