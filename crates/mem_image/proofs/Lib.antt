@@ -1,3 +1,9 @@
+mod Broken
+mod Exactness
 mod Numbers
+mod Printing
+mod Ranges
 mod Rules
+mod Spelled
 mod Splitting
+mod Told

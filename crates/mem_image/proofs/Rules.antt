@@ -100,3 +100,35 @@ differ x y a b r e h p q = sym (both x y a b p q) ∙ not_no (bytes_eq x y) (sym
 
 pub agree : (x y a b : List ℕ) (r : Bool) → r ≡ not (bytes_eq x y) → r ≡ false → x ≡ a → y ≡ b → bytes_eq a b ≡ true
 agree x y a b r e h p q = sym (both x y a b p q) ∙ not_yes (bytes_eq x y) (sym e ∙ h)
+
+-- ---- A line that breaks no rule
+
+pub some_none : (n : ℕ) → Some n ≡ None → ⊥
+some_none n h = let x : ⊥ = cc in x
+
+pub record Passes (arg : Arg) (line : List (List ℕ)) : Type 0 where
+  pub form : has_form line ≡ true
+  pub named : bytes_eq (name_in line) arg.name.text ≡ true
+  pub counted : nat_eq (length (numbers_in line)) (count_of arg.kind) ≡ true
+  pub between : are_between (range_of_kind arg.kind) (numbers_in line) ≡ true
+
+all_hold : (f n c r : Bool) → rule 1 f (rule 2 n (rule 3 c (rule 4 r None))) ≡ None → (f ≡ true) × (n ≡ true) × (c ≡ true) × (r ≡ true)
+all_hold true true true true h = (refl, refl, refl, refl)
+all_hold true true true false h = absurd (some_none 4 h)
+all_hold true true false r h = absurd (some_none 3 h)
+all_hold true false c r h = absurd (some_none 2 h)
+all_hold false n c r h = absurd (some_none 1 h)
+
+pub passes : (arg : Arg) (line : List (List ℕ)) → rule_of_line (Some arg) line ≡ None → Passes arg line
+unfolding rule_of_line
+passes arg line h =
+    let all = all_hold (has_form line) (bytes_eq (name_in line) arg.name.text) (nat_eq (length (numbers_in line)) (count_of arg.kind)) (are_between (range_of_kind arg.kind) (numbers_in line)) h in
+    record { form = all.0; named = all.1; counted = all.2; between = all.3 }
+
+pub left_over : (line : List (List ℕ)) → rule_of_line None line ≡ None → ⊥
+unfolding rule_of_line
+left_over line h = cases (has_form line) h
+  where
+    cases : (f : Bool) → rule 1 f (rule 2 false (rule 3 true (rule 4 true None))) ≡ None → ⊥
+    cases true h = some_none 2 h
+    cases false h = some_none 1 h

@@ -20,6 +20,9 @@ pub record Row : Type 0 where
   pub name : List ℕ
   pub numbers : List ℤ
 
+abbrev pub row : List ℕ → List ℤ → Row
+row name numbers = record { name = name; numbers = numbers }
+
 -- the numbers of the first memref, if there is one
 abbrev pub first_cells : List Cells → List ℤ
 first_cells [] = []
@@ -41,8 +44,7 @@ symbols_behind (kind.Index range) symbols = drop 1 symbols
 unfoldable pub rows : List Arg → List Cells → List ℤ → List Row
 rows [] memrefs symbols = []
 rows (arg ∷ args) memrefs symbols =
-    record { name = arg.name.text; numbers = own_numbers arg.kind memrefs symbols }
-    ∷ rows args (memrefs_behind arg.kind memrefs) (symbols_behind arg.kind symbols)
+    row arg.name.text (own_numbers arg.kind memrefs symbols) ∷ rows args (memrefs_behind arg.kind memrefs) (symbols_behind arg.kind symbols)
 
 -- ---- Which image a text spells
 

@@ -7,4 +7,11 @@
 #![tactic(auto)]
 
 mod forms;
+mod laws;
 mod lines;
+mod parse;
+mod print;
+
+pub use laws::image_texts_are_exact;
+pub use parse::{ImageFault, parse_image};
+pub use print::print_image;

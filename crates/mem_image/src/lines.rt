@@ -1,5 +1,5 @@
 // The lines of a text, and the words of a line.
-ghost use Rattle.std.specs.Prelude.{◌≡◌, ◌<◌, ◌≤◌, ◌+◌, ◌∷◌, [], not, ◌==◌, length, MatchOption, IfNone};
+ghost use Rattle.std.specs.Prelude.{◌≡◌, ◌<◌, ◌≤◌, ◌+◌, ◌∷◌, [], not, ◌==◌, length, MatchOption, IfNone, IfSome};
 ghost use Rattle.std.specs.List.{list_all, prefix_len};
 ghost use Rattle.std.specs.Str.Lines.{lines, strip_carriage_return};
 ghost use Rattle.mem_image.specs.Lines as spec;
@@ -68,6 +68,7 @@ pub(crate) fn next_word(line: &[u8]) -> Option<(&[u8], &[u8])>
 /// A line without the carriage return at its end, if it has one.
 fn without_return(line: &[u8]) -> &[u8]
     ensures value { result.now ≡ strip_carriage_return line.now }
+    ensures within { length result.now ≤ length line.now }
 {
     match line {
         [front @ .., b'\r'] => front,
@@ -77,7 +78,7 @@ fn without_return(line: &[u8]) -> &[u8]
 
 /// The first line of a text, without its ending, and what stands behind it, if there is a line.
 fn cut_line(bytes: &[u8]) -> Option<(&[u8], &[u8])>
-    ensures { MatchOption result (bytes.now ≡ []) (λ p. (lines bytes.now ≡ p.0.now ∷ lines p.1.now) × (length p.1.now < length bytes.now)) }
+    ensures { MatchOption result (bytes.now ≡ []) (λ p. (lines bytes.now ≡ p.0.now ∷ lines p.1.now) × (length p.1.now < length bytes.now) × (length p.0.now ≤ length bytes.now)) }
 {
     if bytes.is_empty() {
         return None;
@@ -105,6 +106,7 @@ pub(crate) fn next_line<'a>(rest: &mut Rest<'a>) -> Option<&'a [u8]>
         MatchOption result (before ≡ []) (λ line. before ≡ spec.numbered rest.new.lines line.now ∷ after) }
     ensures counted { rest.new.lines + length (lines rest.new.bytes.now) ≡ rest.old.lines + length (lines rest.old.bytes.now) }
     ensures within { rest.new.lines + length rest.new.bytes.now ≤ rest.old.lines + length rest.old.bytes.now }
+    ensures short { IfSome result (λ line. length line.now ≤ length rest.old.bytes.now) }
     ensures end { IfNone result (rest.new.bytes.now ≡ []) }
 {
     while let Some((line, bytes)) = cut_line(rest.bytes) {

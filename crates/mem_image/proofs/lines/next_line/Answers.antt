@@ -14,6 +14,7 @@ loop-line-preserved c = record {
   same = rw (c.loop-line.invariant.same, c.in-Some.ensures.0, add-one c.loop-line.rest.lines) (white_line c.loop-line.rest.lines c.in-Some.line.now (lines c.in-Some.bytes.now) (cc));
   counted = let e = ap length c.in-Some.ensures.0 in omega arith;
   within = let e = c.in-Some.ensures.1 in omega arith;
+  shorter = let e = c.in-Some.ensures.1 in omega arith;
 }
 
 pub returns-clause-line : goal.returns-clause-line

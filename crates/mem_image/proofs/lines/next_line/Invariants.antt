@@ -8,6 +8,7 @@ invariant-loop-line l = record {
   same : written_behind l.initial.rest.lines (lines l.initial.rest.bytes.now) ≡ written_behind l.rest.lines (lines l.rest.bytes.now);
   counted : l.rest.lines + length (lines l.rest.bytes.now) ≡ l.initial.rest.lines + length (lines l.initial.rest.bytes.now);
   within : l.rest.lines + length l.rest.bytes.now ≤ l.initial.rest.lines + length l.initial.rest.bytes.now;
+  shorter : length l.rest.bytes.now ≤ length l.initial.rest.bytes.now;
 }
 
 abbrev pub decreases-loop-line : goal.decreases-loop-line
