@@ -3,6 +3,7 @@ mod Exactness
 mod Numbers
 mod Printing
 mod Ranges
+mod Readable
 mod Rules
 mod Spelled
 mod Splitting

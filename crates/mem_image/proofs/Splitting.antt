@@ -17,11 +17,11 @@ use Rattle.mem_image.specs.Lines.{is_blank, is_white, is_some_word, words, Writt
 is_feed : ℕ → Bool
 is_feed b = b == 10
 
-parts_more : (x : List ℕ) (parts : List (List ℕ)) → 0 < length parts → lines_of_parts (x ∷ parts) ≡ strip_carriage_return x ∷ lines_of_parts parts
+pub parts_more : (x : List ℕ) (parts : List (List ℕ)) → 0 < length parts → lines_of_parts (x ∷ parts) ≡ strip_carriage_return x ∷ lines_of_parts parts
 parts_more x [] h = absurd (omega arith)
 parts_more x (y ∷ more) h = refl
 
-some_parts : (p : ℕ → Bool) (bs : List ℕ) → 0 < length (slice_split p bs)
+pub some_parts : (p : ℕ → Bool) (bs : List ℕ) → 0 < length (slice_split p bs)
 some_parts p bs = omega (arith, length-slice_split p bs)
 
 eq_no : (n : ℕ) → 0 < n → (n == 0) ≡ false
@@ -59,7 +59,7 @@ pub skip_blanks : (bs : List ℕ) → words bs ≡ words (drop (prefix_len is_bl
 skip_blanks [] = refl
 skip_blanks (b ∷ bs) = skipped (is_blank b) b bs refl (skip_blanks bs)
 
-some_word : (w : List ℕ) (parts : List (List ℕ)) → 0 < length w → filter is_some_word (w ∷ parts) ≡ w ∷ filter is_some_word parts
+pub some_word : (w : List ℕ) (parts : List (List ℕ)) → 0 < length w → filter is_some_word (w ∷ parts) ≡ w ∷ filter is_some_word parts
 some_word [] parts h = absurd (omega arith)
 some_word (b ∷ bs) parts h = refl
 

@@ -2,6 +2,7 @@
 ghost use Rattle.std.specs.Prelude.{◌≡◌, ◌<◌, ◌≤◌, ◌-◌, ◌^◌, true, false, Some, None, min, map, length, drop, IfOk, MatchOption};
 ghost use Rattle.std.specs.List.{list_all};
 ghost use Rattle.std.specs.Char.{is_ascii_digit};
+ghost use Rattle.std.specs.Str.{bytes_eq};
 ghost use Rattle.num_row.specs.Decimals as decimals;
 ghost use Rattle.num_row.specs.Ints.{fits_i128};
 ghost use Rattle.affine_ast.specs.Sizes.{element_bits};
@@ -279,6 +280,13 @@ pub(crate) fn has_form(line: &[u8]) -> bool
     are_numbers(numbers)
 }
 
+/// Whether a line begins with the name of an argument.
+fn is_named(arg: &Arg, line: &[u8]) -> bool
+    ensures { result ≡ bytes_eq (spec.name_in (words line.now)) arg.now.name.text }
+{
+    name_in(line) == arg.name.text.as_str().as_bytes()
+}
+
 /// The lowest rule that the line of an argument breaks.
 pub(crate) fn broken_rule(arg: &Arg, line: &[u8]) -> Option<u8>
     requires { length line.now < 4294967295 }
@@ -287,7 +295,7 @@ pub(crate) fn broken_rule(arg: &Arg, line: &[u8]) -> Option<u8>
     if !has_form(line) {
         return Some(1);
     }
-    if name_in(line) != arg.name.text.as_str().as_bytes() {
+    if !is_named(arg, line) {
         return Some(2);
     }
     let numbers = numbers_in(line);
