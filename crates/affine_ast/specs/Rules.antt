@@ -326,11 +326,7 @@ maps_bounded s p = true
 
 -- deallocs of a name, at every depth
 abbrev pub is_dealloc_of : Name → Plain → ℕ
-is_dealloc_of m (Dealloc n ty) = one (same_name n m)
-  where
-    one : Bool → ℕ
-    one true = 1
-    one false = 0
+is_dealloc_of m (Dealloc n ty) = if same_name n m then 1 else 0
 is_dealloc_of m p = 0
 
 unfoldable pub deallocs : Name → Nest → ℕ

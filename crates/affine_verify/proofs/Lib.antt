@@ -1,5 +1,7 @@
-pub mod Keys
-pub mod Found
-pub mod PurityLaws
-pub mod Products
-pub mod Intervals
+pub mod Plains
+pub mod Released
+pub mod Shapes
+pub mod Results
+pub mod PlainlyLaws
+pub mod Walks
+pub mod ModuleLaws

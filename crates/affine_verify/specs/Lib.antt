@@ -1,2 +1,2 @@
-pub mod Scoped
-pub mod Purities
+pub mod Comes
+pub mod Plains

@@ -1,0 +1,5 @@
+pub mod Keys
+pub mod Looked
+pub mod PurityLaws
+pub mod Products
+pub mod Intervals

@@ -1,0 +1,9 @@
+use Rattle.std.proofs.Common.{◌≡◌, drop}
+use Rattle.std.specs.List.{list_all}
+use Rattle.affine_ast.specs.declared.types.Scalar.TheVariants.{Index}
+use Rattle.affine_ast.specs.Rules.{is_in, is_value, is_dimension, is_symbol, is_of, is_small_dimension}
+use Rattle.affine_rules.specs.Scoped.{scope_of}
+use Rattle.affine_rules.proofs.lookup.are_small_dimensions.Given as goal
+
+abbrev pub invariant-loop-name : goal.invariant-loop-name
+invariant-loop-name l = list_all (is_small_dimension (scope_of l.names.entries)) l.used ≡ list_all (is_small_dimension (scope_of l.names.entries)) (drop l.name-index l.used)

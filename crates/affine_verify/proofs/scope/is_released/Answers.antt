@@ -1,9 +1,0 @@
-use Rattle.std.proofs.Common.{◌≡◌, ◌∙◌, ap, sym, [], ◌∷◌, ◌++◌, List}
-use Rattle.std.specs.Option.{option_map}
-use Rattle.affine_verify.specs.contracts.scope.KeyPartialEq.TheImpl as impl
-use Rattle.affine_verify.specs.Scoped.{scope_of, names_of, binding_of}
-use Rattle.affine_verify.proofs.Keys.{scope_more, names_more, found_by, listed_by, absent, take_before}
-use Rattle.affine_verify.proofs.scope.is_released.Goals as goal
-
-pub returns : goal.returns
-returns c = c.contains.ensures ∙ listed_by c.args.released.now.keys c.args.name.now c.key_of.result c.key_of.ensures.text c.key_of.ensures.made
