@@ -3,8 +3,10 @@ mod Exactness
 mod Numbers
 mod Printing
 mod Ranges
+mod ReadBack
 mod Readable
 mod Rules
 mod Spelled
 mod Splitting
 mod Told
+mod Valid

@@ -61,7 +61,7 @@ gives arg line values p e =
 
 -- ---- Values between
 
-abbrev AllBetween : Interval → List ℤ → Type 0
+abbrev pub AllBetween : Interval → List ℤ → Type 0
 AllBetween range values = All (λ z. is_between range z ≡ true) values
 
 all_between : (range : Interval) (texts : List (List ℕ)) → are_between range texts ≡ true → AllBetween range (map decimal_value texts)
@@ -194,7 +194,7 @@ pub record Taken (k : ArgKind) (F : List Cells → List ℤ → Type 0) (memrefs
   pub with_memrefs : (ms : List Cells) → memrefs_with k (own_numbers k memrefs symbols) ms ++ memrefs_behind k memrefs ≡ ms ++ memrefs
   pub with_symbols : (ss : List ℤ) → symbols_with k (own_numbers k memrefs symbols) ss ++ symbols_behind k symbols ≡ ss ++ symbols
 
-taken : (k : ArgKind) (F : List Cells → List ℤ → Type 0) (memrefs : List Cells) (symbols : List ℤ) → FitsArg k F memrefs symbols → Taken k F memrefs symbols
+pub taken : (k : ArgKind) (F : List Cells → List ℤ → Type 0) (memrefs : List Cells) (symbols : List ℤ) → FitsArg k F memrefs symbols → Taken k F memrefs symbols
 taken (kind.Memref ty) F [] symbols f = absurd f
 taken (kind.Memref ty) F (cells ∷ memrefs) symbols f = record {
   counts = f.0;

@@ -1,6 +1,7 @@
 -- Which image a text spells, which rule a text breaks first, and the printed text of an image.
 use Rattle.std.specs.Prelude.{◌≡◌, ℕ, suc, ◌<◌, ◌⊎◌, ℤ, Bool, true, List, [], ◌∷◌, ◌++◌, map, take, drop, flat_map, length, Option, Some, None, slice_get, codes}
 use Rattle.std.specs.Fmt.{signed_decimal}
+use Rattle.std.specs.List.{list_all}
 use Rattle.std.specs.Str.Lines.{lines}
 use Rattle.num_row.specs.Decimals.{decimal_value}
 use Rattle.affine_ast.specs.declared.image.Cells.{Cells}
@@ -67,6 +68,10 @@ GiveAll (line ∷ lines) (row ∷ rest) = Gives line.words row × GiveAll lines 
 pub record Spells (text : List ℕ) (module_ : Module) (image : Image) : Type 0 where
   pub fits : Fits module_ image
   pub given : GiveAll (written text) (rows module_.args image.memrefs image.symbols)
+
+-- each argument's name is one that a text can have
+abbrev pub HasNames : Module → Type 0
+HasNames m = list_all (λ arg. is_name arg.name.text) m.args ≡ true
 
 -- ---- Which rule a text breaks first
 

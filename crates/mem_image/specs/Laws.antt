@@ -2,7 +2,9 @@
 use Rattle.std.specs.Prelude.{◌≡◌, ◌⊎◌, ℕ, List}
 use Rattle.affine_ast.specs.declared.image.Image.{Image}
 use Rattle.affine_ast.specs.declared.module.Module.{Module}
-use Rattle.mem_image.specs.Images.{Spells, IsFirstBroken}
+use Rattle.affine_ast.specs.Validity.{IsValid}
+use Rattle.nest_meaning.specs.Memory.{Fits}
+use Rattle.mem_image.specs.Images.{Spells, HasNames, IsFirstBroken, printed}
 
 -- a text spells at most one image
 abbrev pub SpellsOne : Type 0
@@ -19,3 +21,7 @@ NotBoth = (text : List ℕ) (m : Module) (image : Image) (line number : ℕ) →
 -- a text that spells no image breaks a rule first
 abbrev pub OneOfBoth : Type 0
 OneOfBoth = (text : List ℕ) (m : Module) → ((image : Image) × Spells text m image) ⊎ ((line : ℕ) × (number : ℕ) × IsFirstBroken text m line number)
+
+-- the printed text of an image that fits a valid module spells that image
+abbrev pub ReadBack : Type 0
+ReadBack = (m : Module) (image : Image) → IsValid m → HasNames m → Fits m image → Spells (printed m image) m image

@@ -77,10 +77,12 @@ fn print_row(
 /// The printed text of an image: for each argument in order a line of its name without `%`, `=` and its numbers, with one space
 /// each.
 ///
-/// `parse_image` reads it as the same image. The only error is that memory ran out.
+/// `parse_image` reads it as the same image, where the arguments have names that a text can have. The only error is that memory ran out.
 pub fn print_image(alloc: Global, image: &Image, module: &Verified) -> Result<Vec<u8>, AllocError>
     requires { Fits «module».now.inner image.now }
     ensures text { IfOk result (λ v. v.items ≡ spec.printed «module».now.inner image.now) }
+    // what is printed is read back as this image
+    ensures read_back { IfOk result (λ v. spec.HasNames «module».now.inner → spec.Spells v.items «module».now.inner image.now) }
 {
     let mut out = Vec::new(alloc);
     let mut memrefs = image.memrefs.as_slice();

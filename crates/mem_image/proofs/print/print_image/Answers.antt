@@ -1,6 +1,7 @@
 use Rattle.std.proofs.Common.{◌≡◌, ◌∙◌, sym, ap, arith}
 use Rattle.mem_image.specs.Images.{printed}
 use Rattle.mem_image.proofs.Printing.{print_step, print_end}
+use Rattle.mem_image.proofs.ReadBack.{text_read_back}
 use Rattle.mem_image.proofs.print.print_image.Goals as goal
 
 pub loop-arg-preserved : goal.loop-arg-preserved
@@ -8,4 +9,6 @@ loop-arg-preserved c = print_step _ _ c.arg-item.result c.loop-arg.memrefs.now _
 
 pub returns : goal.returns
 unfolding printed
-returns c = record { text = print_end c.as_slice-arg-items.result.now c.loop-arg.arg-index _ _ _ _ (omega arith) c.loop-arg.invariant }
+returns c =
+    let text : c.loop-arg.out.items ≡ printed c.args.module.now.inner c.args.image.now = print_end c.as_slice-arg-items.result.now c.loop-arg.arg-index _ _ _ _ (omega arith) c.loop-arg.invariant in
+    record { text = text; read_back = λ named. text_read_back c.loop-arg.out.items c.args.module.now.inner c.args.image.now text c.args.module.now.valid named c.requires }
