@@ -5,10 +5,10 @@ use Rattle.affine_ast.specs.declared.image.Cells.{Cells}
 use Rattle.affine_ast.specs.declared.module.Arg.{Arg}
 use Rattle.mem_image.specs.Forms.{values_in, rule_of_line}
 use Rattle.mem_image.specs.Growing.{memrefs_with, symbols_with}
-use Rattle.mem_image.specs.Images.{Breaks, NoneBreaks, BreaksFirst, Lacks}
+use Rattle.mem_image.specs.Images.{NoneBreaks, BreaksFirst, Lacks}
 use Rattle.mem_image.specs.Lines.{Written}
-use Rattle.mem_image.proofs.Rules.{some_none, left_over}
-use Rattle.mem_image.proofs.Told.{Told, Broken, Read, judged, told, told_lacks, told_broken, told_line, told_left}
+use Rattle.mem_image.proofs.Rules.{left_over}
+use Rattle.mem_image.proofs.Told.{Broken, Read, judged, told, told_lacks, told_broken, told_line, told_left}
 
 read_broken : (m : List Cells) (s : List ℤ) (line number : ℕ) → Read m s ≡ Broken line number → ⊥
 read_broken m s line number h = let x : ⊥ = cc in x

@@ -1,5 +1,5 @@
 -- The texts of numbers, and what they write.
-use Rattle.std.proofs.Common.{◌≡◌, ℕ, ◌+◌, ◌*◌, ◌-◌, ◌^◌, ◌≤◌, min, suc, zero, ◌<◌, drop, get_or, List, [], ◌∷◌, ◌&&◌, length, Bool, true, false, Option, Some, None, ℤ, pos, negsuc, refl, sym, ◌∙◌, ap, arith, ◌++◌, ◌<ℤ◌, mul-suc, mul-zero, mul_assoc, le_trans, FitsSigned, MatchOption}
+use Rattle.std.proofs.Common.{◌≡◌, ℕ, ◌+◌, ◌*◌, ◌^◌, ◌≤◌, min, suc, zero, ◌<◌, drop, get_or, List, [], ◌∷◌, ◌&&◌, length, Bool, true, false, Option, Some, None, ℤ, pos, negsuc, refl, sym, ◌∙◌, ap, arith, ◌++◌, ◌<ℤ◌, mul-suc, mul-zero, mul_assoc, le_trans, FitsSigned, MatchOption}
 use Rattle.std.proofs.lemmas.Int.{ints}
 use Rattle.std.proofs.lemmas.Bool.{ltb-false}
 use Rattle.std.proofs.Math.Bool.{and-false}

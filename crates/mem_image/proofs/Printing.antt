@@ -5,7 +5,7 @@ use Rattle.std.proofs.Math.Seq.{drop-cons}
 use Rattle.std.proofs.lemmas.List.{append_assoc, append-nil, drop_all}
 use Rattle.affine_ast.specs.declared.image.Cells.{Cells}
 use Rattle.affine_ast.specs.declared.module.Arg.{Arg}
-use Rattle.mem_image.specs.Images.{Row, row, own_numbers, memrefs_behind, symbols_behind, rows, printed_row}
+use Rattle.mem_image.specs.Images.{row, own_numbers, memrefs_behind, symbols_behind, rows, printed_row}
 
 -- an element in its list
 pub drop_at : {X : Type 0} (items : List X) (i : ℕ) (item : X) → i < length items → item ≡ get_or items i item → drop i items ≡ item ∷ drop (i + 1) items

@@ -1,14 +1,13 @@
 -- The tests of ranges, and what they say.
-use Rattle.std.proofs.Common.{◌≡◌, ℕ, ◌-◌, ◌^◌, ◌<◌, ◌≤◌, zero, suc, List, [], ◌∷◌, ◌&&◌, map, Bool, true, false, ℤ, pos, negsuc, neg_ℤ, ◌≤ℤ◌, ◌<ℤ◌, refl, sym, ◌∙◌, ap, arith}
-use Rattle.std.specs.Prelude.{int_le, All}
+use Rattle.std.proofs.Common.{◌≡◌, ℕ, ◌-◌, ◌^◌, ◌<◌, ◌&&◌, Bool, true, ℤ, pos, neg_ℤ, ◌≤ℤ◌, ◌<ℤ◌, ◌∙◌, ap, arith}
+use Rattle.std.specs.Prelude.{int_le}
 use Rattle.std.proofs.lemmas.Int.{ints}
 use Rattle.std.proofs.lemmas.Nat.{pow_pos}
 use Rattle.affine_expr.specs.declared.map.Interval.{Interval}
 use Rattle.int_ops.specs.Wrapped.{InRange}
 use Rattle.nest_meaning.specs.Memory.{InInterval}
-use Rattle.num_row.specs.Decimals.{decimal_value}
-use Rattle.mem_image.specs.Forms.{is_between, are_between, signed_range}
-use Rattle.mem_image.proofs.Numbers.{and_left, and_right, true_no}
+use Rattle.mem_image.specs.Forms.{is_between, signed_range}
+use Rattle.mem_image.proofs.Numbers.{and_left, and_right}
 
 le_yes : (a b : ℤ) → int_le a b ≡ true → a ≤ℤ b
 le_yes a b h = grind (arith, ints)

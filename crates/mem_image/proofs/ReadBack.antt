@@ -1,8 +1,7 @@
 -- The printed text of an image that fits spells that image.
-use Rattle.std.proofs.Common.{◌≡◌, ℕ, ◌<◌, List, [], ◌∷◌, length, true, ℤ, FitsSigned, refl, sym, subst, arith}
+use Rattle.std.proofs.Common.{◌≡◌, ℕ, List, [], ◌∷◌, true, ℤ, FitsSigned, sym, subst, arith}
 use Rattle.std.specs.Int.{w128}
 use Rattle.std.specs.List.{list_all}
-use Rattle.std.specs.Str.Lines.{lines}
 use Rattle.std.proofs.lemmas.List.Elements.{All-weaker}
 use Rattle.affine_ast.specs.declared.image.Cells.{Cells}
 use Rattle.affine_ast.specs.declared.image.Image.{Image}
@@ -11,7 +10,7 @@ use Rattle.affine_ast.specs.declared.module.Module.{Module}
 use Rattle.affine_ast.specs.Validity.{IsValid}
 use Rattle.nest_meaning.specs.Memory.{Fits, FitsArgs}
 use Rattle.mem_image.specs.Forms.{range_of_kind, is_between, is_name}
-use Rattle.mem_image.specs.Images.{own_numbers, memrefs_behind, symbols_behind, rows, GiveAll, Spells, HasNames, printed}
+use Rattle.mem_image.specs.Images.{own_numbers, memrefs_behind, symbols_behind, rows, Spells, HasNames, printed}
 use Rattle.mem_image.specs.Laws.{ReadBack}
 use Rattle.mem_image.specs.Lines.{written}
 use Rattle.mem_image.proofs.Numbers.{and_left, and_right}

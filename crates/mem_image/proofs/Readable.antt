@@ -1,22 +1,22 @@
 -- The printed text is read back.
-use Rattle.std.proofs.Common.{◌≡◌, ℕ, zero, suc, ◌+◌, ◌-◌, ◌^◌, ◌<◌, ◌≤◌, List, [], ◌∷◌, ◌++◌, ◌&&◌, ◌||◌, length, take, drop, get_or, map, flat_map, Bool, true, false, Option, Some, None, ℤ, pos, negsuc, refl, sym, ◌∙◌, ap, subst, arith, FitsSigned}
-use Rattle.std.specs.Prelude.{◌==◌, All, nat_lt, nat_le, not, codes, slice_index, if◌then◌else◌}
-use Rattle.std.specs.Char.{is_ascii_digit, is_ascii_alphabetic, is_ascii_alphanumeric}
-use Rattle.std.specs.Fmt.{decimal, signed_decimal}
+use Rattle.std.proofs.Common.{◌≡◌, ℕ, suc, ◌-◌, ◌<◌, List, [], ◌∷◌, ◌++◌, ◌&&◌, ◌||◌, length, get_or, map, flat_map, Bool, true, false, Some, None, ℤ, refl, sym, ◌∙◌, ap, subst, arith, FitsSigned}
+use Rattle.std.specs.Prelude.{◌==◌, All, nat_lt, nat_le, codes, slice_index, if◌then◌else◌}
+use Rattle.std.specs.Char.{is_ascii_digit}
+use Rattle.std.specs.Fmt.{signed_decimal}
 use Rattle.std.specs.List.{filter, list_all, slice_split}
 use Rattle.std.specs.Str.Lines.{lines, lines_of_parts, strip_carriage_return}
 use Rattle.std.proofs.lemmas.Bool.Decides.{nat_tests}
 use Rattle.std.proofs.lemmas.List.{append_assoc, append-nil, length-map}
 use Rattle.std.proofs.lemmas.List.Elements.{All-head, All-tail, All-weaker}
 use Rattle.std.specs.Int.{w128}
-use Rattle.num_row.specs.Decimals.{is_decimal, decimal_value, decimal_number, IsShortestText}
+use Rattle.num_row.specs.Decimals.{is_decimal, decimal_value, decimal_number}
 use Rattle.num_row.proofs.DecimalTexts.{shortest}
 use Rattle.num_row.proofs.Narrow.{narrowed_some}
 use Rattle.std.proofs.lemmas.List.Splits.{slice_split_at, slice_split_none}
 use Rattle.std.proofs.lemmas.List.Sums.{AllPass-from_list_all}
 use Rattle.mem_image.specs.Forms.{begins_id, goes_on_id, is_digits, is_id, is_name, are_numbers}
-use Rattle.mem_image.specs.Images.{Row, row, Gives, GiveAll, printed_number, printed_row}
-use Rattle.mem_image.specs.Lines.{is_blank, is_white, is_some_word, words, Written, numbered, written_behind}
+use Rattle.mem_image.specs.Images.{Row, Gives, GiveAll, printed_number, printed_row}
+use Rattle.mem_image.specs.Lines.{is_blank, is_white, is_some_word, words, written_behind}
 use Rattle.mem_image.proofs.Numbers.{and_left, and_right, true_no, decimal_digits, number_of}
 use Rattle.mem_image.proofs.Splitting.{parts_more, some_parts, some_word, some_line, no_line}
 

@@ -1,5 +1,5 @@
 -- What the rules of a line come to.
-use Rattle.std.proofs.Common.{◌≡◌, ℕ, ◌≤◌, ◌<◌, ◌-◌, ◌^◌, min, List, [], ◌∷◌, ◌&&◌, drop, length, Bool, true, false, Option, Some, None, refl, sym, ◌∙◌, ap, arith}
+use Rattle.std.proofs.Common.{◌≡◌, ℕ, ◌<◌, ◌-◌, ◌^◌, min, List, [], ◌∷◌, ◌&&◌, length, Bool, true, false, Option, Some, None, refl, sym, ◌∙◌, ap, arith}
 use Rattle.std.specs.Prelude.{nat_eq, not, codes}
 use Rattle.std.specs.List.{list_all}
 use Rattle.std.specs.Str.{bytes_eq}
@@ -8,8 +8,8 @@ use Rattle.std.proofs.lemmas.Bool.Decides.{nat_tests}
 use Rattle.num_row.specs.Decimals.{is_decimal}
 use Rattle.affine_ast.specs.declared.module.Arg.{Arg}
 use Rattle.affine_ast.specs.Validity.{rule}
-use Rattle.mem_image.specs.Forms.{count_of, range_of_kind, is_name, are_numbers, name_in, numbers_in, has_form, is_next, has_count, are_between, are_in_range, rule_of_line}
-use Rattle.mem_image.proofs.Numbers.{and_left, and_right, true_no}
+use Rattle.mem_image.specs.Forms.{count_of, range_of_kind, is_name, are_numbers, name_in, numbers_in, has_form, are_between, rule_of_line}
+use Rattle.mem_image.proofs.Numbers.{and_right, true_no}
 
 -- ---- The form of a line
 

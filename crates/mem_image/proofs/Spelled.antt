@@ -1,8 +1,7 @@
 -- The image that a text spells, and what the reading comes to.
-use Rattle.std.proofs.Common.{◌≡◌, ℕ, suc, ◌<◌, List, [], ◌∷◌, ◌++◌, ◌&&◌, length, take, drop, map, Bool, true, false, Option, Some, None, ℤ, refl, sym, ◌∙◌, ap, subst, arith}
+use Rattle.std.proofs.Common.{◌≡◌, ℕ, List, [], ◌∷◌, ◌++◌, ◌&&◌, length, map, true, Option, Some, None, ℤ, refl, sym, ◌∙◌, ap, subst, arith}
 use Rattle.std.specs.Prelude.{All, codes, nat_eq}
 use Rattle.std.specs.Str.{bytes_eq}
-use Rattle.std.specs.Str.Lines.{lines}
 use Rattle.std.proofs.lemmas.Bool.Decides.{nat_tests}
 use Rattle.std.proofs.lemmas.List.{append_assoc, append-nil, length-map}
 use Rattle.std.proofs.lemmas.List.Elements.{All-nil, All-cons, All-head, All-tail, All-weaker}
@@ -17,7 +16,7 @@ use Rattle.affine_ast.specs.Intervals.{range_or}
 use Rattle.affine_ast.specs.Sizes.{element_bits}
 use Rattle.affine_expr.specs.declared.map.Interval.{Interval}
 use Rattle.int_ops.specs.Wrapped.{InRange}
-use Rattle.nest_meaning.specs.Memory.{Fits, FitsArg, FitsArgs, InInterval}
+use Rattle.nest_meaning.specs.Memory.{FitsArg, FitsArgs}
 use Rattle.num_row.specs.Decimals.{decimal_value}
 use Rattle.mem_image.specs.Forms.{count_of, range_of_kind, is_between, is_name, are_numbers, name_in, numbers_in, values_in, has_form, are_between, rule_of_line}
 use Rattle.mem_image.specs.Growing.{memrefs_with, symbols_with}
@@ -25,8 +24,8 @@ use Rattle.mem_image.specs.Images.{Row, row, own_numbers, memrefs_behind, symbol
 use Rattle.mem_image.specs.Lines.{Written, written}
 use Rattle.mem_image.proofs.Numbers.{and_left, and_right, true_no, first_between, rest_between, first_inside, none_between}
 use Rattle.mem_image.proofs.Ranges.{in_range, range_in, in_interval, interval_in}
-use Rattle.mem_image.proofs.Rules.{Passes, passes, breaks_none, some_none, left_over}
-use Rattle.mem_image.proofs.Told.{Told, Broken, Read, judged, told}
+use Rattle.mem_image.proofs.Rules.{Passes, passes, breaks_none, left_over}
+use Rattle.mem_image.proofs.Told.{Broken, Read, judged, told}
 
 -- ---- The words of a line in form
 

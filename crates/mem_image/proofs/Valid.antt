@@ -1,15 +1,11 @@
 -- What validity says of the arguments of a module.
-use Rattle.std.proofs.Common.{◌≡◌, ℕ, zero, suc, ◌*◌, ◌-◌, ◌^◌, ◌<◌, ◌≤◌, List, [], ◌∷◌, ◌&&◌, ◌||◌, length, Bool, true, false, Option, Some, None, ℤ, pos, negsuc, neg_ℤ, ◌≤ℤ◌, ◌<ℤ◌, FitsSigned, refl, sym, ◌∙◌, ap, arith}
-use Rattle.std.specs.Prelude.{All, not, nat_le, int_lt}
+use Rattle.std.proofs.Common.{◌≡◌, ℕ, zero, suc, ◌*◌, ◌^◌, ◌<◌, ◌≤◌, List, [], ◌∷◌, ◌&&◌, ◌||◌, length, Bool, true, false, Option, Some, None, ℤ, pos, negsuc, neg_ℤ, ◌≤ℤ◌, FitsSigned, refl, sym, arith}
+use Rattle.std.specs.Prelude.{not, nat_le, int_lt}
 use Rattle.std.specs.Int.{w128}
 use Rattle.std.specs.List.{list_all}
 use Rattle.std.proofs.lemmas.Bool.Decides.{nat_tests}
 use Rattle.std.proofs.lemmas.Int.{ints}
-use Rattle.std.proofs.lemmas.List.Elements.{All-weaker}
 use Rattle.affine_expr.specs.declared.map.Interval.{Interval}
-use Rattle.affine_expr.specs.Pure.{is_outside}
-use Rattle.affine_ast.specs.declared.image.Cells.{Cells}
-use Rattle.affine_ast.specs.declared.image.Image.{Image}
 use Rattle.affine_ast.specs.declared.module.Arg.{Arg}
 use Rattle.affine_ast.specs.declared.module.ArgKind.{ArgKind}
 use Rattle.affine_ast.specs.declared.module.ArgKind.TheVariants as kind
@@ -22,9 +18,9 @@ use Rattle.affine_ast.specs.Nest.{nest}
 use Rattle.affine_ast.specs.Rules.{is_small, is_new, shape_within, sizes_positive, rank_within, arguments_within}
 use Rattle.affine_ast.specs.Scope.{Around}
 use Rattle.affine_ast.specs.Sizes.{element_bits, product}
-use Rattle.affine_ast.specs.Validity.{rule, Told, Broken, Passed, judged, rule_of_argument, range_ordered, range_small, argument_is_slow, argument_shape, with_argument, behind_argument, told, told_arguments, outside, told_module, broken_of, first_broken, IsValid}
+use Rattle.affine_ast.specs.Validity.{rule, Told, judged, rule_of_argument, range_ordered, range_small, argument_is_slow, argument_shape, with_argument, behind_argument, told, told_arguments, outside, told_module, broken_of, first_broken, IsValid}
 use Rattle.int_ops.specs.Wrapped.{InRange}
-use Rattle.mem_image.specs.Forms.{count_of, range_of_kind, signed_range, is_between}
+use Rattle.mem_image.specs.Forms.{count_of, range_of_kind, is_between}
 use Rattle.mem_image.proofs.Numbers.{and_left, and_right, true_no}
 use Rattle.mem_image.proofs.Ranges.{in_range, in_interval}
 use Rattle.mem_image.proofs.Rules.{some_none}

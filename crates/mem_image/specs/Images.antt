@@ -1,5 +1,5 @@
 -- Which image a text spells, which rule a text breaks first, and the printed text of an image.
-use Rattle.std.specs.Prelude.{◌≡◌, ℕ, suc, ◌<◌, ◌⊎◌, ℤ, Bool, true, List, [], ◌∷◌, ◌++◌, map, take, drop, flat_map, length, Option, Some, None, slice_get, codes}
+use Rattle.std.specs.Prelude.{◌≡◌, ℕ, suc, ◌<◌, ◌⊎◌, ℤ, true, List, [], ◌∷◌, ◌++◌, map, take, drop, flat_map, length, Some, None, slice_get, codes}
 use Rattle.std.specs.Fmt.{signed_decimal}
 use Rattle.std.specs.List.{list_all}
 use Rattle.std.specs.Str.Lines.{lines}

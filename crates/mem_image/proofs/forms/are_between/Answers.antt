@@ -1,5 +1,4 @@
-use Rattle.std.proofs.Common.{◌≡◌, ◌∙◌, sym, ap, true, false}
-use Rattle.mem_image.specs.Lines.{words}
+use Rattle.std.proofs.Common.{◌∙◌, sym, ap}
 use Rattle.mem_image.specs.Forms.{are_between}
 use Rattle.mem_image.proofs.Numbers.{rest_decimal, first_outside, first_inside, none_between}
 use Rattle.mem_image.proofs.forms.are_between.Goals as goal

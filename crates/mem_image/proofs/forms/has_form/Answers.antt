@@ -1,4 +1,4 @@
-use Rattle.std.proofs.Common.{◌≡◌, ◌∙◌, refl, sym, ap}
+use Rattle.std.proofs.Common.{◌∙◌, refl, sym}
 use Rattle.mem_image.proofs.Rules.{no_words, one_word, no_name, no_sign, then_numbers, differ, agree}
 use Rattle.mem_image.proofs.forms.has_form.Goals as goal
 

@@ -1,4 +1,4 @@
-use Rattle.std.proofs.Common.{◌≡◌, ◌∙◌, ◌*◌, ◌-◌, ◌^◌, min, get_or, drop, ap, sym, arith}
+use Rattle.std.proofs.Common.{◌∙◌, ◌*◌, min, ap, arith}
 use Rattle.affine_ast.specs.Sizes.{product}
 use Rattle.std.proofs.lemmas.List.{drop_all}
 use Rattle.mem_image.proofs.Numbers.{product_step}

@@ -1,11 +1,9 @@
-use Rattle.std.proofs.Common.{◌≡◌, [], ◌∷◌, ◌++◌, ◌∙◌, sym, ap, map, to_z, of_z, SFits, rules, true, false}
-use Rattle.std.proofs.lemmas.List.{append_assoc}
+use Rattle.std.proofs.Common.{◌≡◌, [], ◌∷◌, ◌++◌, ◌∙◌, sym, ap, map, to_z, of_z, SFits, rules}
 use Rattle.std.specs.Int.{w64}
 use Rattle.std.proofs.lemmas.Int.{to_z-of_z}
 use Rattle.num_row.specs.Decimals.{decimal_value}
 use Rattle.mem_image.specs.Lines.{words}
-use Rattle.mem_image.specs.Forms.{are_between}
-use Rattle.mem_image.proofs.Numbers.{first_decimal, rest_decimal, first_between, rest_between, true_no, pushed}
+use Rattle.mem_image.proofs.Numbers.{rest_decimal, first_between, rest_between, true_no, pushed}
 use Rattle.mem_image.proofs.forms.read_values.Goals as goal
 
 pub loop-word-preserved-in_ok-push : goal.loop-word-preserved-in_ok-push

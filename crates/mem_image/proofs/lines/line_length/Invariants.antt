@@ -1,6 +1,5 @@
 use Rattle.std.proofs.Common.{◌≡◌, ◌≤◌, ◌+◌, ◌-◌, not, ◌==◌, length, drop}
 use Rattle.std.specs.List.{prefix_len}
-use Rattle.mem_image.specs.Lines.{is_blank}
 use Rattle.mem_image.proofs.lines.line_length.Given as goal
 
 abbrev pub invariant-loop-end : goal.invariant-loop-end

@@ -1,7 +1,7 @@
-use Rattle.std.proofs.Common.{◌≡◌, ◌+◌, ◌∙◌, ap, sym, suc, length, arith}
+use Rattle.std.proofs.Common.{◌∙◌, ap, length, arith}
 use Rattle.std.proofs.Math.Numerals.{add-one}
 use Rattle.std.specs.Str.Lines.{lines}
-use Rattle.mem_image.specs.Lines.{written_behind, numbered}
+use Rattle.mem_image.specs.Lines.{written_behind}
 use Rattle.mem_image.proofs.Splitting.{white_line, some_line, no_line}
 use Rattle.mem_image.proofs.lines.next_line.Goals as goal
 

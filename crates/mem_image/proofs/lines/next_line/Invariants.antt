@@ -1,4 +1,4 @@
-use Rattle.std.proofs.Common.{ℕ, ◌≡◌, ◌≤◌, ◌+◌, length}
+use Rattle.std.proofs.Common.{◌≡◌, ◌≤◌, ◌+◌, length}
 use Rattle.std.specs.Str.Lines.{lines}
 use Rattle.mem_image.specs.Lines.{written_behind}
 use Rattle.mem_image.proofs.lines.next_line.Given as goal

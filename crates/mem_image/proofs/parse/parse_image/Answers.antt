@@ -1,13 +1,12 @@
-use Rattle.std.proofs.Common.{◌≡◌, ◌∙◌, ◌+◌, ℕ, suc, [], refl, sym, ap, length, arith}
+use Rattle.std.proofs.Common.{◌≡◌, ◌∙◌, ◌+◌, suc, refl, sym, ap, length, arith}
 use Rattle.std.proofs.lemmas.List.{drop_all}
 use Rattle.std.specs.Str.Lines.{lines}
-use Rattle.mem_image.specs.Growing.{image_with}
-use Rattle.mem_image.specs.Lines.{written, written_behind, words}
+use Rattle.mem_image.specs.Lines.{written, words}
 use Rattle.mem_image.proofs.Broken.{broken_is}
 use Rattle.mem_image.proofs.Printing.{drop_at}
 use Rattle.mem_image.proofs.Rules.{passes, form_decimal}
 use Rattle.mem_image.proofs.Spelled.{read_spells}
-use Rattle.mem_image.proofs.Told.{Told, Broken, told, told_lacks, told_broken, told_line, told_left, told_read, told_image}
+use Rattle.mem_image.proofs.Told.{Broken, told_lacks, told_broken, told_line, told_left, told_read, told_image}
 use Rattle.mem_image.proofs.parse.parse_image.Goals as goal
 
 pub loop-arg-init : goal.loop-arg-init

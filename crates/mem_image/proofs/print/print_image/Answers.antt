@@ -1,4 +1,4 @@
-use Rattle.std.proofs.Common.{◌≡◌, ◌∙◌, sym, ap, arith}
+use Rattle.std.proofs.Common.{◌≡◌, ◌∙◌, arith}
 use Rattle.mem_image.specs.Images.{printed}
 use Rattle.mem_image.proofs.Printing.{print_step, print_end}
 use Rattle.mem_image.proofs.ReadBack.{text_read_back}
