@@ -1,0 +1,12 @@
+mod Broken
+mod Exactness
+mod Numbers
+mod Printing
+mod Ranges
+mod ReadBack
+mod Readable
+mod Rules
+mod Spelled
+mod Splitting
+mod Told
+mod Valid

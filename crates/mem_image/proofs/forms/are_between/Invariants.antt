@@ -1,0 +1,15 @@
+use Rattle.std.proofs.Common.{◌≡◌, true, length}
+use Rattle.std.specs.List.{list_all}
+use Rattle.num_row.specs.Decimals.{is_decimal}
+use Rattle.mem_image.specs.Lines.{words}
+use Rattle.mem_image.specs.Forms as spec
+use Rattle.mem_image.proofs.forms.are_between.Given as goal
+
+abbrev pub invariant-loop-word : goal.invariant-loop-word
+invariant-loop-word l = record {
+  decimal : list_all is_decimal (words l.rest) ≡ true;
+  same : spec.are_between l.range (words l.line) ≡ spec.are_between l.range (words l.rest);
+}
+
+abbrev pub decreases-loop-word : goal.decreases-loop-word
+decreases-loop-word l = length l.rest

@@ -1,0 +1,10 @@
+use Rattle.std.proofs.Common.{◌≡◌, ◌≤◌, ◌+◌, ◌-◌, not, length, drop}
+use Rattle.std.specs.List.{prefix_len}
+use Rattle.mem_image.specs.Lines.{is_blank}
+use Rattle.mem_image.proofs.lines.word_length.Given as goal
+
+abbrev pub invariant-loop-end : goal.invariant-loop-end
+invariant-loop-end l = (prefix_len (λ b. not (is_blank b)) l.bytes ≡ l.end + prefix_len (λ b. not (is_blank b)) (drop l.end l.bytes)) × (l.end ≤ length l.bytes)
+
+abbrev pub decreases-loop-end : goal.decreases-loop-end
+decreases-loop-end l = length l.bytes - l.end
