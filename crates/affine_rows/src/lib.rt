@@ -2,11 +2,9 @@
 #![tactic(auto)]
 
 #[cfg(test)]
-<<<<<<< HEAD
 mod expressions;
-=======
+#[cfg(test)]
 mod images;
->>>>>>> b33f15fcae2a145aed3625943fc2d9a960c728f6
 #[cfg(test)]
 mod numbers;
 #[cfg(test)]
