@@ -9,3 +9,5 @@ mod operations;
 mod streams;
 #[cfg(test)]
 mod texts;
+#[cfg(test)]
+mod transfers;
