@@ -16,4 +16,6 @@ mod systems;
 #[cfg(test)]
 mod texts;
 #[cfg(test)]
+mod transfers;
+#[cfg(test)]
 mod validity;

@@ -90,7 +90,7 @@ module _ (x : Device) (y : Prompt) (a : Agree x y) (t : ℕ) (f : Flight) (here 
       (progress_here next_out (λ _. refl) ∙ (λ k. record { moved = (sym was k).moved + 1; cells = (sym was k).cells })))
 
 pub step_keeps : (x x' : Device) (y : Prompt) → Agree x y → EngineStep x x' → Agree x' y
-step_keeps _ _ y a (take x e t f here _ _) = keeps_engine x y a t f here (Some e)
+step_keeps _ _ y a (take x e t f _ here _ _) = keeps_engine x y a t f here (Some e)
 step_keeps _ _ y a (move_in x e t f here _ inc more) = moves_in x y a t f here inc more
 step_keeps _ _ y a (move_out x e t f here _ out more) = moves_out x y a t f here out more
 step_keeps _ _ y a (finish x e t f here _ _) = keeps_engine x y a t f here None

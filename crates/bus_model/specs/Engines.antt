@@ -59,9 +59,13 @@ next_out f = record { transfer = f.transfer; cells = f.cells; moved = f.moved + 
 abbrev pub slow_out : List ℤ → Flight → List ℤ
 slow_out slow f = slice_set slow (slow_place f.transfer f.moved) (number_at f.cells (f.transfer.offset + f.moved))
 
+-- an engine holds none of the transfers
+abbrev pub IsAtRest : ℕ → Device → Type 0
+IsAtRest e x = (t : ℕ) (f : Flight) → flight_of x.flights t ≡ Some f → f.engine ≢ Some e
+
 -- a step of an engine, from a device to the next
 pub data EngineStep : Device → Device → Type 0 where
-  take : (x : Device) (e t : ℕ) (f : Flight) → flight_of x.flights t ≡ Some f → f.engine ≡ None → f.moved ≡ 0 → EngineStep x record { slow = x.slow; flights = with_flight x.flights t (with_engine (Some e)) }
+  take : (x : Device) (e t : ℕ) (f : Flight) → IsAtRest e x → flight_of x.flights t ≡ Some f → f.engine ≡ None → f.moved ≡ 0 → EngineStep x record { slow = x.slow; flights = with_flight x.flights t (with_engine (Some e)) }
   move_in : (x : Device) (e t : ℕ) (f : Flight) → flight_of x.flights t ≡ Some f → f.engine ≡ Some e → f.transfer.incoming ≡ true → f.moved < f.transfer.count → EngineStep x record { slow = x.slow; flights = with_flight x.flights t (next_in x.slow) }
   move_out : (x : Device) (e t : ℕ) (f : Flight) → flight_of x.flights t ≡ Some f → f.engine ≡ Some e → f.transfer.incoming ≡ false → f.moved < f.transfer.count → EngineStep x record { slow = slow_out x.slow f; flights = with_flight x.flights t next_out }
   finish : (x : Device) (e t : ℕ) (f : Flight) → flight_of x.flights t ≡ Some f → f.engine ≡ Some e → f.moved ≡ f.transfer.count → EngineStep x record { slow = x.slow; flights = with_flight x.flights t (with_engine None) }
