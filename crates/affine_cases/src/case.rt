@@ -7,6 +7,7 @@
 //     [#### fails-read N ..]  the numbers of the reads that fail, from 1
 //     [#### most-write N]     most bytes that a write takes (else 4,096)
 //     [#### fails-write N ..] the numbers of the writes that fail, from 1
+//     [#### repeat N]         how often the source's bytes stand behind one another (else once)
 //     #### source N           and N bytes, and a line feed
 //     #### status N
 //     #### message TEXT
@@ -21,6 +22,7 @@ pub struct Case<'a> {
     pub fails_read: Vec<u64>,
     pub most_write: usize,
     pub fails_write: Vec<u64>,
+    pub repeat: u64,
     pub source: &'a [u8],
     pub status: u64,
     pub message: &'a str,
@@ -93,6 +95,14 @@ fn most_of(text: Option<&str>) -> usize {
     }
 }
 
+/// A count: once where none is given.
+fn count_of(text: Option<&str>) -> u64 {
+    match text.unwrap_or("1").parse::<u64>() {
+        Ok(count) => count,
+        Err(_) => 1,
+    }
+}
+
 /// What a case expects.
 #[derive(Drop)]
 struct Expected<'a> {
@@ -127,6 +137,7 @@ pub fn next_case<'a>(
     let (fails_read, rest) = optional(rest, "fails-read");
     let (most_write, rest) = optional(rest, "most-write");
     let (fails_write, rest) = optional(rest, "fails-write");
+    let (repeat, rest) = optional(rest, "repeat");
     let Some((source, rest)) = counted(rest, "source") else {
         return Ok(None);
     };
@@ -142,6 +153,7 @@ pub fn next_case<'a>(
         fails_read,
         most_write: most_of(most_write),
         fails_write,
+        repeat: count_of(repeat),
         source,
         status: expected.status,
         message: expected.message,

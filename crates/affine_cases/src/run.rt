@@ -2,6 +2,7 @@
 use crate::case::Case;
 use affine_driver::{Ending, stage_main};
 use affine_io::{MemSink, MemSource};
+use std::alloc::{AllocError, Global};
 use std::io;
 
 /// How many cases ran, and how many differ from what they must come to.
@@ -37,6 +38,15 @@ fn is_expected(
     Ok(true)
 }
 
+/// The bytes of the source.
+fn source_of(alloc: Global, case: &Case<'_>) -> Result<Vec<u8>, AllocError> {
+    let mut bytes = Vec::new(alloc);
+    for _time in 0..case.repeat {
+        bytes.extend_from_slice(case.source)?;
+    }
+    Ok(bytes)
+}
+
 /// Runs one case and counts it.
 pub fn run_case(
     rt: &HostRuntime,
@@ -46,7 +56,7 @@ pub fn run_case(
     totals: &mut Totals,
 ) -> io::Result<()> {
     let alloc = rt.alloc();
-    let bytes = case.source.to_vec(alloc)?;
+    let bytes = source_of(alloc, case)?;
     let fails_read = case.fails_read.as_slice().to_vec(alloc)?;
     let fails_write = case.fails_write.as_slice().to_vec(alloc)?;
     let mut source = MemSource::new(bytes, fails_read, case.most_read.max(1));

@@ -1,5 +1,5 @@
--- What `stage` writes.
-use Rattle.std.specs.Prelude.{◌≡◌, ℕ, ◌*◌, Bool, true, false, List, ◌++◌, codes}
+-- What a command writes.
+use Rattle.std.specs.Prelude.{◌≡◌, ℕ, ◌*◌, Bool, true, false, List, ◌++◌, nat_eq, if◌then◌else◌, codes}
 use Rattle.std.specs.Fmt.{decimal}
 use Rattle.std.specs.List.{flat_map}
 use Rattle.affine_ast.specs.declared.module.Module.{Module}
@@ -8,6 +8,9 @@ use Rattle.affine_ast.specs.Spelling.{name_text, spelling}
 use Rattle.first_path.specs.declared.place.Placement.{Placement}
 use Rattle.first_path.specs.declared.stage.Staged.{Staged}
 use Rattle.first_path.specs.Law.{IsStagedBy, RunsAs}
+use Rattle.affine_grammar.specs.Spelling.{Spells}
+use Rattle.affine_driver.specs.declared.command.Command.{Command}
+use Rattle.affine_driver.specs.declared.command.Command.TheVariants.{Check, Stage}
 
 -- the block, which is the first and only one, its line and the memref
 unfoldable pub subject_text : ℕ → Name → List ℕ
@@ -15,26 +18,40 @@ subject_text line memref = codes "// block 0 line " ++ (decimal line ++ (codes "
 
 -- the bytes of the fast memref, of `i32`, and how many loops stand round the placement's loop
 unfoldable pub amount_text : ℕ → List ℕ
-amount_text size = codes ": staged " ++ (decimal (4 * size) ++ codes " bytes at depth 0, ")
+amount_text extent = codes ": staged " ++ (decimal (4 * extent) ++ codes " bytes at depth 0, ")
 
 -- in which directions the memref is copied: always in, and out where the loop stores to it
 abbrev pub directions_text : Bool → List ℕ
 directions_text true = codes "in out\n"
 directions_text false = codes "in\n"
 
--- the report line of a memref that is staged whole
+-- what is said of a memref: that it is staged, or, where its window is empty, that it is left for want of a region
+unfoldable pub decision_text : Placement → List ℕ
+decision_text placed = if nat_eq placed.extent 0 then codes ": left, region\n" else amount_text placed.extent ++ directions_text placed.writes
+
+-- the report line of a memref that the loop accesses
 unfoldable pub report_line : ℕ → Placement → List ℕ
-report_line line placed = subject_text line placed.memref ++ (amount_text placed.size ++ directions_text placed.writes)
+report_line line placed = subject_text line placed.memref ++ decision_text placed
 
 -- the report: a line for each placement, in plan order
 abbrev pub report : ℕ → List Placement → List ℕ
 report line placements = flat_map (report_line line) placements
 
--- the output of a text: report and printed spelling of the staged module of a module of the first form, which runs as
--- that module does
-pub record IsOutput (output : List ℕ) : Type 0 where
-  pub input : Module
+-- what `stage` writes of a module: report and printed spelling of the staged module of a module of the first form, which
+-- runs as that module does
+pub record IsStageOutput (input : Module) (output : List ℕ) : Type 0 where
   pub staged : Staged
   pub by : IsStagedBy input staged
   pub runs : RunsAs input staged.module
   pub text : output ≡ report staged.line staged.placements ++ spelling staged.module
+
+-- what a command writes of a module; `check` writes its printed spelling
+abbrev pub Writes : Command → Module → List ℕ → Type 0
+Writes Check input output = output ≡ spelling input
+Writes Stage input output = IsStageOutput input output
+
+-- the output of the bytes under a command: that of the module which they spell
+pub record IsOutput (command : Command) (bytes output : List ℕ) : Type 0 where
+  pub input : Module
+  pub spelled : Spells bytes input
+  pub writes : Writes command input output

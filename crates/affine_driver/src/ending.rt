@@ -15,7 +15,10 @@ pub enum Ending {
     ReadFault,
     /// The source is longer than the limit.
     TooLong,
-    /// The text is no module of the first form.
+    /// The text spells no module: the first token that no module can have there stands at this line and column, counted
+    /// from 1, the column in bytes.
+    Text { line: u32, column: u32 },
+    /// The text spells a module that isn't of the first form.
     Unbuilt,
     /// The sink failed; what it took is a prefix of the output.
     WriteFault,
@@ -33,6 +36,7 @@ impl Ending {
             Ending::Words => 1,
             Ending::ReadFault => 2,
             Ending::TooLong => 3,
+            Ending::Text { .. } => 4,
             Ending::WriteFault => 8,
             Ending::Memory => 9,
             Ending::Unbuilt => 11,
@@ -49,6 +53,7 @@ impl fmt::Display for Ending {
             Ending::Words => write!(f, "affine: words"),
             Ending::ReadFault => write!(f, "affine: read fault"),
             Ending::TooLong => write!(f, "affine: source too long"),
+            Ending::Text { line, column } => write!(f, "affine: text {line}:{column}"),
             Ending::Unbuilt => write!(f, "affine: not built"),
             Ending::WriteFault => write!(f, "affine: write fault"),
             Ending::Memory => write!(f, "affine: out of memory"),

@@ -4,9 +4,11 @@
 //! written. It stands on the parser, the printer, the first path and `affine_io`.
 #![tactic(auto)]
 
+mod command;
 mod ending;
 mod report;
 mod top;
 
+pub use command::Command;
 pub use ending::Ending;
 pub use top::{SOURCE_LIMIT, stage_main};

@@ -2,7 +2,7 @@
 ghost use Rattle.std.specs.Prelude.{◌≡◌, ◌++◌, ◌*◌, OnOk};
 ghost use Rattle.std.specs.Fmt.{decimal};
 ghost use Rattle.affine_ast.specs.Spelling.{name_text};
-ghost use Rattle.affine_driver.specs.Output.{subject_text, amount_text, directions_text, report_line, report};
+ghost use Rattle.affine_driver.specs.Output.{subject_text, amount_text, directions_text, decision_text, report_line, report};
 
 use affine_ast::Name;
 use first_path::Placement;
@@ -42,11 +42,11 @@ fn put_subject(alloc: Global, out: &mut Vec<u8>, line: u32, memref: &Name) -> Re
 
 /// The bytes of a fast memref of this many elements of `i32`.
 #[tactic(auto, unfolding(crate::specs::Output::amount_text))]
-fn put_amount(alloc: Global, out: &mut Vec<u8>, size: u32) -> Result<(), AllocError>
-    ensures { OnOk result (out.new.items ≡ out.old.items ++ amount_text size) }
+fn put_amount(alloc: Global, out: &mut Vec<u8>, extent: u32) -> Result<(), AllocError>
+    ensures { OnOk result (out.new.items ≡ out.old.items ++ amount_text extent) }
 {
     put(out, b": staged ")?;
-    put_number(alloc, out, 4 * (size as u64))?;
+    put_number(alloc, out, 4 * (extent as u64))?;
     put(out, b" bytes at depth 0, ")
 }
 
@@ -60,6 +60,22 @@ fn put_directions(out: &mut Vec<u8>, writes: bool) -> Result<(), AllocError>
     }
 }
 
+/// Whether the memref is staged, and how, or why not.
+#[tactic(auto, unfolding(crate::specs::Output::decision_text))]
+fn put_decision(
+    alloc: Global,
+    out: &mut Vec<u8>,
+    placed: &Placement,
+) -> Result<(), AllocError>
+    ensures { OnOk result (out.new.items ≡ out.old.items ++ decision_text placed.now) }
+{
+    if placed.extent == 0 {
+        return put(out, b": left, region\n");
+    }
+    put_amount(alloc, out, placed.extent)?;
+    put_directions(out, placed.writes)
+}
+
 #[tactic(auto, unfolding(crate::specs::Output::report_line))]
 fn put_line(
     alloc: Global,
@@ -70,8 +86,7 @@ fn put_line(
     ensures { OnOk result (out.new.items ≡ out.old.items ++ report_line line placed.now) }
 {
     put_subject(alloc, out, line, &placed.memref)?;
-    put_amount(alloc, out, placed.size)?;
-    put_directions(out, placed.writes)
+    put_decision(alloc, out, placed)
 }
 
 /// The report lines of placements, in plan order.

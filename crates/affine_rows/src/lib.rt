@@ -8,6 +8,8 @@ mod operations;
 #[cfg(test)]
 mod streams;
 #[cfg(test)]
+mod systems;
+#[cfg(test)]
 mod texts;
 #[cfg(test)]
 mod validity;

@@ -1,12 +1,16 @@
-//! The parser: from the bytes of a text to its module.
+//! The parser: from the bytes of a text to the one module that they spell.
 //!
-//! Today it reads the productions that the first form needs, one function each, over the tokens of `affine_lex`. It is safe
-//! on every text and always ends; that it reads exactly the texts of the grammar isn't stated yet.
+//! `parse` is exact: it gives a module exactly where the bytes spell it by the grammar of `affine_grammar`, and refuses all
+//! other bytes at the first token that no module can have there. There is one function for each production, and its clause
+//! is the reader of that production. The crate stands on `expression_text` and `token_cursor`.
 #![tactic(auto)]
 
-mod cursor;
+mod actions;
+mod definitions;
+mod fault;
 mod function;
-mod statement;
-mod types;
+mod regions;
+mod text;
 
-pub use function::{ParseFault, parse};
+pub use fault::ParseFault;
+pub use text::parse;

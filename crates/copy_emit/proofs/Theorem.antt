@@ -13,66 +13,49 @@ use Rattle.affine_ast.proofs.Names.{same_name-refl}
 use Rattle.affine_ast.proofs.Nests.{nest-nil, nest-cons, nest-append, put-For, put-Return}
 use Rattle.nest_meaning.specs.Turns.{turns}
 use Rattle.nest_meaning.specs.Action.{Home, Returns}
-use Rattle.nest_meaning.specs.Static.{Env, knows, product, lower_of, upper_of}
+use Rattle.nest_meaning.specs.Static.{Env, knows, lower_of, upper_of}
 use Rattle.nest_meaning.specs.Actions.{action_of, after_plain, behind, actions, after}
 use Rattle.nest_meaning.specs.Memory.{slow_list, start_env, module_actions}
 use Rattle.nest_meaning.specs.Direct.{Outcome, End, Fault, then_do, folded, State, direct_step, first_state, plain}
 use Rattle.nest_meaning.proofs.Laws.{folded-append, actions-Nothing, actions-Does, actions-Loop, actions-followed}
 use Rattle.prompt_meaning.specs.Device.{Device}
 use Rattle.prompt_meaning.specs.Prompt.{acts, prompt_step, first_device, prompt}
-use Rattle.copy_emit.specs.Template.{Staged, FirstLoop, input_body, staged_body, fast_of, before, redirect_stmt}
+use Rattle.copy_emit.specs.Template.{Staged, FirstLoop, input_body, staged_body, staged_of, before, redirect_stmt}
 use Rattle.copy_emit.specs.Template as template
 use Rattle.copy_emit.specs.FirstForm.{arg_types}
 use Rattle.copy_emit.specs.Law.{Agrees, StagingAgrees}
 use Rattle.copy_emit.proofs.Every.{all_head, all_tail, pairs_head, pairs_tail, all_cons}
 use Rattle.copy_emit.proofs.Moved.{Cell, Lives, Ends}
-use Rattle.copy_emit.proofs.Redirected.{writes_of, Leads}
+use Rattle.copy_emit.proofs.Redirected.{Leads}
 use Rattle.copy_emit.proofs.Args.{Runs, arg_runs}
 use Rattle.copy_emit.proofs.Wrapped.{wrapped, wrapped_is}
 use Rattle.copy_emit.proofs.Staged.{Found, in_rest, Stage, staged_ends}
 
 -- each staged memref is found among all of them, since they are different
-weaker : (own : Name → Bool) (s : Staged) (ss ts : List Staged) → All (λ (t : Staged). same_name s.memref t.memref ≡ false) ts → All (Found own ss) ts → All (Found own (s ∷ ss)) ts
-weaker own s ss [] apart h = λ k d less. absurd (omega (arith, less))
-weaker own s ss (t ∷ ts) apart h =
+weaker : (s : Staged) (ss ts : List Staged) → All (λ (t : Staged). same_name s.memref t.memref ≡ false) ts → All (Found ss) ts → All (Found (s ∷ ss)) ts
+weaker s ss [] apart h = λ k d less. absurd (omega (arith, less))
+weaker s ss (t ∷ ts) apart h =
     let A = λ (t : Staged). same_name s.memref t.memref ≡ false in
-    let ne = all_head A t ts apart in
-    let f = all_head (Found own ss) t ts h in
-    all_cons (Found own (s ∷ ss)) t ts
-    (record {
-      fast = ap (λ b. if b then Some s.fast else fast_of ss t.memref) ne ∙ f.fast;
-      flag = ap (λ b. if b then s.writes else writes_of own ss t.memref) ne ∙ f.flag;
-    })
-    (weaker own s ss ts (all_tail A t ts apart) (all_tail (Found own ss) t ts h))
+    all_cons (Found (s ∷ ss)) t ts
+    (ap (λ b. if b then Some s else staged_of ss t.memref) (all_head A t ts apart) ∙ all_head (Found ss) t ts h)
+    (weaker s ss ts (all_tail A t ts apart) (all_tail (Found ss) t ts h))
 
-all_found : (own : Name → Bool) (ss : List Staged) → AllPairs (λ (s t : Staged). same_name s.memref t.memref ≡ false) ss → All (Found own ss) ss
-all_found own [] apart = λ k d less. absurd (omega (arith, less))
-all_found own (s ∷ ss) apart =
+all_found : (ss : List Staged) → AllPairs (λ (s t : Staged). same_name s.memref t.memref ≡ false) ss → All (Found ss) ss
+all_found [] apart = λ k d less. absurd (omega (arith, less))
+all_found (s ∷ ss) apart =
     let A = λ (s t : Staged). same_name s.memref t.memref ≡ false in
-    all_cons (Found own (s ∷ ss)) s ss
-    (record {
-      fast = ap (λ b. if b then Some s.fast else fast_of ss s.memref) (same_name-refl s.memref);
-      flag = ap (λ b. if b then s.writes else writes_of own ss s.memref) (same_name-refl s.memref);
-    })
-    (weaker own s ss ss (pairs_head A s ss apart) (all_found own ss (pairs_tail A s ss apart)))
+    all_cons (Found (s ∷ ss)) s ss
+    (ap (λ b. if b then Some s else staged_of ss s.memref) (same_name-refl s.memref))
+    (weaker s ss ss (pairs_head A s ss apart) (all_found ss (pairs_tail A s ss apart)))
 
 -- a memref that isn't staged
-record NotStaged (own : Name → Bool) (ss : List Staged) (m : Name) : Type 0 where
-  fast : fast_of ss m ≡ None
-  flag : writes_of own ss m ≡ false
-
-not_staged : (own : Name → Bool) (ss : List Staged) (m : Name) → in_rest ss m ≡ false → NotStaged own ss m
-not_staged own [] m h = record { fast = refl; flag = refl }
-not_staged own (s ∷ ss) m h = by_case (same_name s.memref m) refl h (λ k. not_staged own ss m k)
+not_staged : (ss : List Staged) (m : Name) → in_rest ss m ≡ false → staged_of ss m ≡ None
+not_staged [] m h = refl
+not_staged (s ∷ ss) m h = by_case (same_name s.memref m) refl h (λ k. not_staged ss m k)
   where
-    by_case : (t : Bool) → same_name s.memref m ≡ t → (if same_name s.memref m then true else in_rest ss m) ≡ false → (in_rest ss m ≡ false → NotStaged own ss m) → NotStaged own (s ∷ ss) m
+    by_case : (t : Bool) → same_name s.memref m ≡ t → (if same_name s.memref m then true else in_rest ss m) ≡ false → (in_rest ss m ≡ false → staged_of ss m ≡ None) → staged_of (s ∷ ss) m ≡ None
     by_case true e k more = let z : true ≡ false = sym (ap (λ b. if b then true else in_rest ss m) e) ∙ k in absurd (cc)
-    by_case false e k more =
-        let rest = more (sym (ap (λ b. if b then true else in_rest ss m) e) ∙ k) in
-        record {
-          fast = ap (λ b. if b then Some s.fast else fast_of ss m) e ∙ rest.fast;
-          flag = ap (λ b. if b then s.writes else writes_of own ss m) e ∙ rest.flag;
-        }
+    by_case false e k more = ap (λ b. if b then Some s else staged_of ss m) e ∙ more (sym (ap (λ b. if b then true else in_rest ss m) e) ∙ k)
 
 no_cell : (c : Cell) → None ≡ Some c → ⊥
 no_cell c h = cc
@@ -139,8 +122,8 @@ module _ (own : Name → Bool) (ss : List Staged) (l : FirstLoop) (types : Name 
   finish total (End d) (Fault j y) s = absurd s
   finish total (Fault k d) (End y) s = absurd s
 
-  leads_nowhere : (first cells : ℕ) (g h : Name → Option Home) (o : Option Name) → o ≡ None → Leads own ss g h nowhere nothing_stale o first cells
-  leads_nowhere first cells g h o is = subst (λ o. Leads own ss g h nowhere nothing_stale o first cells) (sym is) (λ k less. refl)
+  leads_nowhere : (first : ℕ) (sizes : List ℕ) (g h : Name → Option Home) (o : Option Staged) → o ≡ None → Leads own ss l g h nowhere nothing_stale o first sizes
+  leads_nowhere first sizes g h o is = subst (λ o. Leads own ss l g h nowhere nothing_stale o first sizes) (sym is) (λ k less. refl)
 
 pub theorem : StagingAgrees
 unfolding plain prompt module_actions
@@ -156,9 +139,8 @@ theorem own m l ss form plan memory fits filler =
       below = λ p c h. absurd (no_cell c h);
       waiting = λ m ty order first typed home rest k less. (refl, refl);
       done = λ m ty order first typed home rest.
-          (let n = not_staged own ss m rest in
-          (leads_nowhere own ss l types e filler first (product ty.sizes) e.home e.home (fast_of ss m) n.fast, λ k less. sym n.flag));
-      apart = λ m f rest is. (let n = not_staged own ss m rest in absurd (different f (sym n.fast ∙ is)));
+          (leads_nowhere own ss l types e filler first ty.sizes e.home e.home (staged_of ss m) (not_staged ss m rest));
+      apart = λ m f rest is. absurd (different f (sym (not_staged ss m rest) ∙ is));
     } in
     let lives : Lives own nowhere nothing_stale total 0 (first_state memory) (first_device memory) = record {
       registers = λ n h. refl;
@@ -172,7 +154,7 @@ theorem own m l ss form plan memory fits filler =
     } in
     let room = plan.room in
     let ends = staged_ends own filler 1048576 ss l types total e runs form.var form.stmts plan.writes ss e nowhere nothing_stale start
-    plan.names plan.args plan.memrefs plan.fasts (all_found own ss plan.memrefs) 0 (omega (arith, room)) (first_state memory) (first_device memory) lives in
+    plan.names plan.args plan.memrefs plan.fasts (all_found ss plan.memrefs) plan.windows 0 (omega (arith, room)) (first_state memory) (first_device memory) lives in
     let loop = flat_map (λ t. actions (nest l.body) (knows e l.var t)) (turns l.low l.high (pos 1)) in
     let direct_is : folded direct_step (actions (nest m.body) e) (first_state memory) ≡ then_do (folded direct_step loop (first_state memory)) (folded direct_step (Returns ∷ [])) =
     ap (λ xs. folded direct_step (actions (nest xs) e) (first_state memory)) form.body
@@ -187,5 +169,5 @@ theorem own m l ss form plan memory fits filler =
     (subst (Agrees (then_do (folded direct_step loop (first_state memory)) (folded direct_step (Returns ∷ [])))) (sym prompt_is)
     (finish own ss l types e filler total (folded direct_step loop (first_state memory)) (folded P inner (first_device memory)) ends))
   where
-    different : (f : Name) → None ≡ Some f → ⊥
+    different : (f : Staged) → None ≡ Some f → ⊥
     different f h = cc

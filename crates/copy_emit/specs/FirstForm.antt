@@ -1,5 +1,5 @@
 -- The modules of the first form, and what the plan of the first form asks of the memrefs that it stages.
-use Rattle.std.specs.Prelude.{◌≡◌, ℕ, ◌*◌, ◌≤◌, Bool, true, false, List, All, AllPairs, fold, sum_by, Option, Some, None}
+use Rattle.std.specs.Prelude.{◌≡◌, ℕ, ◌+◌, ◌*◌, ◌<◌, ◌≤◌, pos, ◌≤ℤ◌, ◌<ℤ◌, Bool, true, false, List, All, AllPairs, fold, sum_by, Option, Some, None}
 use Rattle.affine_ast.specs.declared.name.Name.{Name}
 use Rattle.affine_ast.specs.declared.module.Arg.{Arg}
 use Rattle.affine_ast.specs.declared.module.ArgKind.{ArgKind}
@@ -42,12 +42,16 @@ module _ (own : Name → Bool) where
       pub subscript : at ≡ at_value var
       pub typed : types m ≡ Some ty
 
+    -- a name that a statement defines: it isn't the loop's variable
+    abbrev pub IsFirstResult : Name → Type 0
+    IsFirstResult r = (own r ≡ true) × (same_name r var ≡ false)
+
     -- a load, a store, a constant of `i32` or an addition of `i32`
     abbrev pub IsFirstWhat : What → Type 0
-    IsFirstWhat (Load r m at ty) = (own r ≡ true) × IsFirstAccess m at ty
+    IsFirstWhat (Load r m at ty) = IsFirstResult r × IsFirstAccess m at ty
     IsFirstWhat (Store x m at ty) = (own x ≡ true) × IsFirstAccess m at ty
-    IsFirstWhat (Constant r z ty) = (own r ≡ true) × (ty ≡ scalar.Int I32)
-    IsFirstWhat (Binary r op a b ty) = (own r ≡ true) × (own a ≡ true) × (own b ≡ true) × (op ≡ Add) × (ty ≡ scalar.Int I32)
+    IsFirstWhat (Constant r z ty) = IsFirstResult r × (ty ≡ scalar.Int I32)
+    IsFirstWhat (Binary r op a b ty) = IsFirstResult r × (own a ≡ true) × (own b ≡ true) × (op ≡ Add) × (ty ≡ scalar.Int I32)
     IsFirstWhat w = ⊥
 
     abbrev pub IsFirstStmt : Stmt → Type 0
@@ -76,18 +80,24 @@ module _ (own : Name → Bool) where
     pub memref : own s.memref ≡ true
     pub typed : types s.memref ≡ Some (slow_type s.size)
 
+  -- the window lies in the memref, and each turn that is one of the memref's subscripts lies in the window
+  pub record IsWindow (l : FirstLoop) (s : Staged) : Type 0 where
+    pub inside : s.place + s.extent ≤ s.size
+    pub reached : (k : ℕ) → l.low ≤ℤ pos k → pos k <ℤ l.high → k < s.size → (s.place ≤ k) × (k < s.place + s.extent)
+
   -- where the statement stores to it, a staged memref is written out
   abbrev pub WritesOut : List Staged → What → Type 0
   WritesOut ss (Store x m at ty) = All (λ s. same_name s.memref m ≡ true → s.writes ≡ true) ss
   WritesOut ss w = Unit {0}
 
-  -- what the theorem asks of the memrefs that are staged: they are different arguments, each that the loop stores to is
-  -- written out, the names are made, those of the fast memrefs are different, and the fast memory that is live at the
-  -- loop isn't above 1,048,576 bytes
+  -- what the theorem asks of the memrefs that are staged: they are different arguments, their windows hold what the loop
+  -- reaches, each that the loop stores to is written out, the names are made, those of the fast memrefs are different, and
+  -- the fast memory that is live at the loop isn't above 1,048,576 bytes
   pub record IsPlan (m : Module) (l : FirstLoop) (ss : List Staged) : Type 0 where
     pub args : All (IsStagedArg (arg_types m.args)) ss
+    pub windows : All (IsWindow l) ss
     pub names : All HasMadeNames ss
     pub memrefs : AllPairs (λ (s t : Staged). same_name s.memref t.memref ≡ false) ss
     pub fasts : AllPairs (λ (s t : Staged). same_name s.fast t.fast ≡ false) ss
     pub writes : All (λ (s : Stmt). WritesOut ss s.what) l.body
-    pub room : 4 * sum_by (λ (s : Staged). s.size) ss ≤ 1048576
+    pub room : 4 * sum_by (λ (s : Staged). s.extent) ss ≤ 1048576

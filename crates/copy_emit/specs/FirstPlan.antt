@@ -1,5 +1,5 @@
 -- The plan of the first form: which memrefs are staged, in which order, and the names that their copies take.
-use Rattle.std.specs.Prelude.{ℕ, ◌+◌, ◌*◌, ◌≤◌, ℤ, Bool, true, false, not, ◌||◌, List, [], ◌∷◌, ◌++◌, length, take, fold, sum_by, Option, Some, None, if◌then◌else◌, codes, decimal, bytes_eq}
+use Rattle.std.specs.Prelude.{ℕ, ◌+◌, ◌-◌, ◌*◌, ◌≤◌, min, ℤ, ◌-ℤ◌, Bool, true, false, not, ◌||◌, List, [], ◌∷◌, ◌++◌, length, take, fold, sum_by, Option, Some, None, nat_eq, if◌then◌else◌, codes, decimal, bytes_eq}
 use Rattle.affine_ast.specs.declared.name.Name.{Name}
 use Rattle.affine_ast.specs.declared.image.Image.{Image}
 use Rattle.affine_ast.specs.declared.module.Arg.{Arg}
@@ -9,6 +9,7 @@ use Rattle.affine_ast.specs.declared.module.Module.{Module}
 use Rattle.affine_ast.specs.declared.stmt.Stmt.{Stmt}
 use Rattle.affine_ast.specs.declared.stmt.What.{What, Load, Store}
 use Rattle.affine_ast.specs.Names.{same_name}
+use Rattle.nest_meaning.specs.Turns.{gap}
 use Rattle.nest_meaning.specs.Static.{product}
 use Rattle.nest_meaning.specs.Memory.{Fits}
 use Rattle.nest_meaning.specs.Direct.{plain}
@@ -17,37 +18,62 @@ use Rattle.copy_emit.specs.Template.{Staged, FirstLoop}
 use Rattle.copy_emit.specs.FirstForm.{IsFirstForm}
 use Rattle.copy_emit.specs.Law.{Agrees, staged}
 
--- a memref that is staged whole, and whether the loop stores to it
+-- a memref that the loop accesses: its size, its window, whose extent is 0 where the loop has no turn, and whether the loop
+-- stores to it
 pub record Planned : Type 0 where
   pub memref : Name
   pub size : ℕ
+  pub place : ℕ
+  pub extent : ℕ
   pub writes : Bool
 
 abbrev pub first_size : List ℕ → ℕ
 first_size [] = 0
 first_size (n ∷ ns) = n
 
--- the memref that a statement accesses
-abbrev pub access_of : What → Option Planned
-access_of (Load r m at ty) = Some (record { memref = m; size = first_size ty.sizes; writes = false })
-access_of (Store x m at ty) = Some (record { memref = m; size = first_size ty.sizes; writes = true })
-access_of w = None
+-- a loop by ones between two bounds
+module _ (low high : ℤ) where
+  -- how many turns it has
+  abbrev pub turn_count : ℕ
+  turn_count = gap (high -ℤ low)
+
+  -- the window of a memref of this size, at whose elements the loop's turns are the subscripts. It has an element for each
+  -- turn, at most all. It begins at the first turn, but where it wouldn't lie in the memref, then as near as it can: at
+  -- max(0, min(low, size - extent))
+  abbrev pub window_extent : ℕ → ℕ
+  window_extent size = min turn_count size
+
+  abbrev pub window_place : ℕ → ℕ
+  window_place size = min (gap low) (size - window_extent size)
+
+  abbrev pub planned : Name → ℕ → Bool → Planned
+  planned memref size writes = record { memref = memref; size = size; place = window_place size; extent = window_extent size; writes = writes }
+
+  -- the memref that a statement accesses
+  abbrev pub access_of : What → Option Planned
+  access_of (Load r m at ty) = Some (planned m (first_size ty.sizes) false)
+  access_of (Store x m at ty) = Some (planned m (first_size ty.sizes) true)
+  access_of w = None
 
 -- an access of a memref that stands there already changes whether it is stored to; another memref comes last
 abbrev pub note_access : List Planned → Planned → List Planned
 note_access [] a = a ∷ []
-note_access (p ∷ ps) a = if same_name p.memref a.memref then record { memref = p.memref; size = p.size; writes = p.writes || a.writes } ∷ ps else p ∷ note_access ps a
+note_access (p ∷ ps) a = if same_name p.memref a.memref then record p { writes = p.writes || a.writes } ∷ ps else p ∷ note_access ps a
 
 abbrev pub note : List Planned → Option Planned → List Planned
 note ps (Some a) = note_access ps a
 note ps None = ps
 
-abbrev pub note_stmt : List Planned → Stmt → List Planned
-note_stmt ps s = note ps (access_of s.what)
+abbrev pub note_stmt : ℤ → ℤ → List Planned → Stmt → List Planned
+note_stmt low high ps s = note ps (access_of low high s.what)
 
 -- the memrefs that a loop's body accesses, in the order of their first accesses
-unfoldable pub first_plan : List Stmt → List Planned
-first_plan body = fold note_stmt [] body
+unfoldable pub first_plan : FirstLoop → List Planned
+first_plan l = fold (note_stmt l.low l.high) [] l.body
+
+-- those of them that are staged: all, and none where the loop has no turn
+abbrev pub staged_plan : FirstLoop → List Planned
+staged_plan l = if nat_eq (turn_count l.low l.high) 0 then [] else first_plan l
 
 -- how many of them are written out
 abbrev pub written_out : List Planned → ℕ
@@ -62,6 +88,8 @@ module _ (name : ℕ → Name) (total : ℕ) where
   numbered_one next p later = record {
     memref = p.memref;
     size = p.size;
+    place = p.place;
+    extent = p.extent;
     writes = p.writes;
     fast = name next;
     in_turn = name (next + 1);
@@ -98,7 +126,7 @@ arg_elements arg = elements arg.kind
 
 -- the staged memrefs of a loop, with their names
 abbrev pub first_staged : Bool → FirstLoop → List Staged
-first_staged is_made l = numbered (copy_name is_made) (first_plan l.body)
+first_staged is_made l = numbered (copy_name is_made) (staged_plan l)
 
 -- a module of the first form whose memrefs have at most 262,144 elements and whose loop has at most 4,096 statements:
 -- staged by its plan, it has from every memory that fits it and for every filler, at a capacity of 1,048,576 bytes, the

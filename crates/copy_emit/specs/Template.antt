@@ -1,7 +1,7 @@
--- The template of copy loops: a loop, with memrefs of one dimension that are copied whole to fast memory before it, and
--- back after it.
-use Rattle.std.specs.Prelude.{ℕ, ℤ, pos, Bool, List, [], ◌∷◌, ◌++◌, map, flat_map, reverse, Option, Some, None, if◌then◌else◌}
-use Rattle.affine_expr.specs.declared.expr.Expr.{Const, Dim}
+-- The template of copy loops: a loop, with memrefs of one dimension of which a window is copied to fast memory before it,
+-- and back after it.
+use Rattle.std.specs.Prelude.{ℕ, ℤ, pos, Bool, List, [], ◌∷◌, ◌++◌, map, flat_map, reverse, Option, Some, None, nat_eq, if◌then◌else◌}
+use Rattle.affine_expr.specs.declared.expr.Expr.{Expr, Const, Dim, Add, Sub}
 use Rattle.affine_ast.specs.declared.name.Name.{Name}
 use Rattle.affine_ast.specs.declared.types.Access.{Access}
 use Rattle.affine_ast.specs.declared.types.Bound.TheVariants.{Int}
@@ -11,11 +11,14 @@ use Rattle.affine_ast.specs.declared.stmt.Stmt.{Stmt}
 use Rattle.affine_ast.specs.declared.stmt.What.{What, For, Load, Store, Alloc, Dealloc, Return}
 use Rattle.affine_ast.specs.Names.{same_name}
 
--- a memref that is staged whole: its size, whether it is written out, and the names that its copies take: the fast
--- memref, and the variable and the value of the loop that reads in and of the loop that writes out
+-- a memref that is staged: its size, its window, from the place on as many elements as the extent says, whether it is
+-- written out, and the names that its copies take: the fast memref, and the variable and the value of the loop that reads
+-- in and of the loop that writes out
 pub record Staged : Type 0 where
   pub memref : Name
   pub size : ℕ
+  pub place : ℕ
+  pub extent : ℕ
   pub writes : Bool
   pub fast : Name
   pub in_turn : Name
@@ -35,52 +38,75 @@ slow_type n = record { sizes = n ∷ []; element = I32; space = 0 }
 abbrev pub fast_type : MemrefType → MemrefType
 fast_type ty = record { sizes = 1 ∷ ty.sizes; element = ty.element; space = 1 }
 
+-- `e + n`, and `e` where n is 0
+abbrev pub plus : Expr → ℕ → Expr
+plus e n = if nat_eq n 0 then e else Add e (Const (pos n))
+
+-- `e - n`, and `e` where n is 0
+abbrev pub less : Expr → ℕ → Expr
+less e n = if nat_eq n 0 then e else Sub e (Const (pos n))
+
+-- the subscript that is one expression of one value
+abbrev pub at_expression : Expr → Name → Access
+at_expression e n = record { map = record { dims = 1; syms = 0; results = e ∷ [] }; operands = n ∷ [] }
+
 -- the subscript that is one value
 abbrev pub at_value : Name → Access
-at_value n = record { map = record { dims = 1; syms = 0; results = Dim 0 ∷ [] }; operands = n ∷ [] }
+at_value n = at_expression (Dim 0) n
 
--- the same subscripts in the first half: `[0, ..]`
-abbrev pub in_half : Access → Access
-in_half at = record { map = record { dims = at.map.dims; syms = at.map.syms; results = Const (pos 0) ∷ at.map.results }; operands = at.operands }
+-- the subscript of the window's element, as many behind its place as a value says
+abbrev pub behind_place : ℕ → Name → Access
+behind_place place n = at_expression (plus (Dim 0) place) n
 
--- `affine.for %turn = 0 to size` with a load of one memref and a store of the value to another
+-- the subscripts of the memref's element in the first half, which holds the window from this place on: `[0, e - place]`
+abbrev pub in_half : ℕ → Access → Access
+in_half place at = record {
+  map = record { dims = at.map.dims; syms = at.map.syms; results = Const (pos 0) ∷ map (λ e. less e place) at.map.results };
+  operands = at.operands;
+}
+
+-- `memref<1xEXTENTxi32, 1>`
+abbrev pub window_type : Staged → MemrefType
+window_type s = fast_type (slow_type s.extent)
+
+-- `affine.for %turn = 0 to extent` with a load of one memref and a store of the value to another
 abbrev pub copy_loop : Name → ℕ → What → What → Stmt
-copy_loop turn size load store = made (For turn (Int (pos 0)) (Int (pos size)) (pos 1) (made load ∷ made store ∷ []))
+copy_loop turn extent load store = made (For turn (Int (pos 0)) (Int (pos extent)) (pos 1) (made load ∷ made store ∷ []))
 
 abbrev pub copy_in : Staged → Stmt
-copy_in s = copy_loop s.in_turn s.size
-    (Load s.in_value s.memref (at_value s.in_turn) (slow_type s.size))
-    (Store s.in_value s.fast (in_half (at_value s.in_turn)) (fast_type (slow_type s.size)))
+copy_in s = copy_loop s.in_turn s.extent
+    (Load s.in_value s.memref (behind_place s.place s.in_turn) (slow_type s.size))
+    (Store s.in_value s.fast (in_half 0 (at_value s.in_turn)) (window_type s))
 
 abbrev pub copy_out : Staged → Stmt
-copy_out s = copy_loop s.out_turn s.size
-    (Load s.out_value s.fast (in_half (at_value s.out_turn)) (fast_type (slow_type s.size)))
-    (Store s.out_value s.memref (at_value s.out_turn) (slow_type s.size))
+copy_out s = copy_loop s.out_turn s.extent
+    (Load s.out_value s.fast (in_half 0 (at_value s.out_turn)) (window_type s))
+    (Store s.out_value s.memref (behind_place s.place s.out_turn) (slow_type s.size))
 
 -- what stands before the loop for a memref, and after it
 abbrev pub before : Staged → List Stmt
-before s = made (Alloc s.fast (fast_type (slow_type s.size))) ∷ copy_in s ∷ []
+before s = made (Alloc s.fast (window_type s)) ∷ copy_in s ∷ []
 
 abbrev pub after : Staged → List Stmt
-after s = (if s.writes then copy_out s ∷ [] else []) ++ made (Dealloc s.fast (fast_type (slow_type s.size))) ∷ []
+after s = (if s.writes then copy_out s ∷ [] else []) ++ made (Dealloc s.fast (window_type s)) ∷ []
 
--- the fast memref of a staged one
-abbrev pub fast_of : List Staged → Name → Option Name
-fast_of [] m = None
-fast_of (s ∷ ss) m = if same_name s.memref m then Some s.fast else fast_of ss m
+-- the staged memref of a name
+abbrev pub staged_of : List Staged → Name → Option Staged
+staged_of [] m = None
+staged_of (s ∷ ss) m = if same_name s.memref m then Some s else staged_of ss m
 
--- an access of a staged memref is one of the fast memref
-abbrev pub redirect_load : Option Name → Name → Name → Access → MemrefType → What
-redirect_load (Some f) r m at ty = Load r f (in_half at) (fast_type ty)
+-- an access of a staged memref is one of the fast memref, `place` before where it was
+abbrev pub redirect_load : Option Staged → Name → Name → Access → MemrefType → What
+redirect_load (Some s) r m at ty = Load r s.fast (in_half s.place at) (window_type s)
 redirect_load None r m at ty = Load r m at ty
 
-abbrev pub redirect_store : Option Name → Name → Name → Access → MemrefType → What
-redirect_store (Some f) x m at ty = Store x f (in_half at) (fast_type ty)
+abbrev pub redirect_store : Option Staged → Name → Name → Access → MemrefType → What
+redirect_store (Some s) x m at ty = Store x s.fast (in_half s.place at) (window_type s)
 redirect_store None x m at ty = Store x m at ty
 
 abbrev pub redirect : List Staged → What → What
-redirect ss (Load r m at ty) = redirect_load (fast_of ss m) r m at ty
-redirect ss (Store x m at ty) = redirect_store (fast_of ss m) x m at ty
+redirect ss (Load r m at ty) = redirect_load (staged_of ss m) r m at ty
+redirect ss (Store x m at ty) = redirect_store (staged_of ss m) x m at ty
 redirect ss w = w
 
 -- with the statement's own line

@@ -27,7 +27,7 @@ map_more f xs i x r l e =
 
 -- the access at a placement
 noted : Placement → List Planned → Planned → Bool → List Planned
-noted y rest a t = if t then record { memref = y.memref; size = y.size; writes = y.writes || a.writes } ∷ rest else planned_of y ∷ note_access rest a
+noted y rest a t = if t then record (planned_of y) { writes = y.writes || a.writes } ∷ rest else planned_of y ∷ note_access rest a
 
 noted_at : (ps : List Placement) (i : ℕ) (x : Placement) (a : Planned) → i < length ps → x ≡ get_or ps i x
     → note_access (map planned_of (drop i ps)) a ≡ noted x (map planned_of (drop (i + 1) ps)) a (same_name x.memref a.memref)
@@ -49,7 +49,7 @@ passed_more ps m i x l e n h = λ a q.
 
 -- an access of a memref that has a placement
 pub note_known : (ps : List Placement) (i : ℕ) (x y a : Placement) → i < length ps → x ≡ get_or ps i x → x.memref ≡ a.memref
-    → planned_of y ≡ record { memref = x.memref; size = x.size; writes = x.writes || a.writes }
+    → planned_of y ≡ record (planned_of x) { writes = x.writes || a.writes }
     → Passed ps a.memref i → map planned_of (set ps i y) ≡ note_access (map planned_of ps) (planned_of a)
 unfolding noted
 note_known ps i x y a l e q w h =
@@ -108,14 +108,14 @@ either_false a b w h e = e ∙ sym (ap (λ (x : Bool). x || b) h)
 -- a placement that stands there already takes the access's writes; x and m are both the item at i, and ys is the list
 pub note_written : (ps ys : List Placement) → ys ≡ ps → (i : ℕ) (x m a : Placement) (w : Bool) → i < length ps → x ≡ get_or ps i x → m ≡ get_or ps i m
     → ((d : Placement) → i < length ys → (get_or ys i d).memref ≡ a.memref) → w ≡ (x.writes || a.writes) → Passed ys a.memref i
-    → map planned_of (set ps i (record { memref = m.memref; size = m.size; writes = w })) ≡ note_access (map planned_of ps) (planned_of a)
+    → map planned_of (set ps i (record m { writes = w })) ≡ note_access (map planned_of ps) (planned_of a)
 note_written ps ys e i x m a w l p q f v h =
     let found : (d : Placement) → i < length ps → (get_or ps i d).memref ≡ a.memref =
     subst (λ (zs : List Placement). (d : Placement) → i < length zs → (get_or zs i d).memref ≡ a.memref) e f in
     let passed : Passed ps a.memref i = subst (λ (zs : List Placement). Passed zs a.memref i) e h in
     let same : m ≡ x = get_or_read ps i m l q x ∙ sym p in
-    note_known ps i x (record { memref = m.memref; size = m.size; writes = w }) a l p
+    note_known ps i x (record m { writes = w }) a l p
     (ap (λ (y : Placement). y.memref) p ∙ found x l)
-    (ap (λ (y : Placement). let r : Planned = record { memref = y.memref; size = y.size; writes = w } in r) same
-    ∙ ap (λ (b : Bool). let r : Planned = record { memref = x.memref; size = x.size; writes = b } in r) v)
+    (ap (λ (y : Placement). let r : Planned = record (planned_of y) { writes = w } in r) same
+    ∙ ap (λ (b : Bool). let r : Planned = record (planned_of x) { writes = b } in r) v)
     passed

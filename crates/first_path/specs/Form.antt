@@ -14,8 +14,8 @@ abbrev pub loop_of : Looped → FirstLoop
 loop_of l = record {
   line = l.line;
   var = l.var.now;
-  low = l.low;
-  high = l.high;
+  low = l.turns.low;
+  high = l.turns.high;
   body = l.body.now;
   return_line = l.return_line;
 }

@@ -18,7 +18,7 @@ pub record IsStagedBy (input : Module) (output : Staged) : Type 0 where
   pub looped : FirstLoop
   pub first : IsFirst input looped
   pub made : output.module ≡ staged input (first_staged true looped) looped
-  pub placements : map planned_of output.placements ≡ first_plan looped.body
+  pub placements : map planned_of output.placements ≡ first_plan looped
   pub line : output.line ≡ looped.line
 
 -- from every memory that fits the input, for every filler, the output has at a capacity of 1,048,576 bytes the verdict of

@@ -1,13 +1,14 @@
 // The first form.
 ghost use Rattle.std.specs.Prelude.{◌≡◌, [], ◌∷◌, ◌<◌, ◌≤◌, length, true, All, sum_by, IsTrue, IfSome};
 ghost use Rattle.copy_emit.specs.Template.{FirstLoop, slow_type, at_value, input_body};
-ghost use Rattle.copy_emit.specs.FirstForm.{arg_types, IsFirstArg, IsFirstAccess, IsFirstWhat, IsFirstStmt};
+ghost use Rattle.copy_emit.specs.FirstForm.{arg_types, IsFirstArg, IsFirstAccess, IsFirstResult, IsFirstWhat, IsFirstStmt};
 ghost use Rattle.copy_emit.specs.FirstPlan.{of_text, arg_elements};
 ghost use Rattle.first_path.specs.Form.{loop_of, IsFirst};
 
 use affine_ast::{
     Access, Arg, ArgKind, Bound, Element, MemrefType, Module, Name, Scalar, Stmt, What,
 };
+use crate::place::Turns;
 use affine_expr::Expr;
 use int_ops::Op;
 
@@ -137,13 +138,14 @@ struct Scope<'a> {
 }
 
 /// Whether a name may be defined here: it isn't in scope, and no made name can be it.
+#[tactic(auto, using(crate::proofs::Plans::different))]
 fn is_fresh(scope: Scope<'_>, name: &Name) -> bool
-    ensures { IsTrue result → of_text name.now ≡ true }
+    ensures { IsTrue result → IsFirstResult of_text (arg_types scope.entry.args.now) scope.entry.var.now name.now }
 {
     is_own(name)
         && !begins_as_made(name)
         && argument_of(scope.args, name).is_none()
-        && !scope.var.is(name)
+        && !name.is(scope.var)
         && !defines(scope.before, name)
 }
 
@@ -263,8 +265,7 @@ fn are_plain(args: &[Arg], var: &Name, body: &[Stmt]) -> bool
 pub(crate) struct Looped<'a> {
     pub(crate) line: u32,
     pub(crate) var: &'a Name,
-    pub(crate) low: i64,
-    pub(crate) high: i64,
+    pub(crate) turns: Turns,
     pub(crate) body: &'a [Stmt],
     pub(crate) return_line: u32,
 }
@@ -305,8 +306,10 @@ fn loop_before_return<'a>(looped: &'a Stmt, last: &'a Stmt) -> Option<Looped<'a>
     Some(Looped {
         line: looped.line,
         var,
-        low: integer(lower)?,
-        high: integer(upper)?,
+        turns: Turns {
+            low: integer(lower)?,
+            high: integer(upper)?,
+        },
         body: body.as_slice(),
         return_line: last.line,
     })
@@ -322,8 +325,8 @@ fn is_plain_loop(args: &[Arg], looped: Looped<'_>) -> bool
     ensures stmts { IsTrue result → All (IsFirstStmt of_text (arg_types args.now) looped.entry.var.now) looped.entry.body.now }
     ensures few { IsTrue result → length looped.entry.body.now ≤ 4096 }
 {
-    is_bound(looped.low)
-        && is_bound(looped.high)
+    is_bound(looped.turns.low)
+        && is_bound(looped.turns.high)
         && is_own(looped.var)
         && !begins_as_made(looped.var)
         && argument_of(args, looped.var).is_none()

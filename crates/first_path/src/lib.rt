@@ -1,8 +1,8 @@
 //! Staging by copy loops of a module of the first form: one plain loop over vectors of `i32`.
 //!
-//! Each memref that the loop accesses is copied whole into fast memory before it, the loop's accesses go there, and what
-//! the loop stores to is copied back behind it. The staged module is the template's of `copy_emit` for a plan that meets
-//! the premises of its law. The crate stands on `affine_ast` and `copy_emit`.
+//! Of each memref that the loop accesses the window that its turns reach is copied into fast memory before it, the loop's
+//! accesses go there, and what the loop stores to is copied back behind it. The staged module is the template's of
+//! `copy_emit` for a plan that meets the premises of its law. The crate stands on `affine_ast` and `copy_emit`.
 #![tactic(auto)]
 
 mod emit;

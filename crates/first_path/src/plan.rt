@@ -8,12 +8,14 @@ use crate::place::Placement;
 use affine_ast::{Name, Text};
 use std::alloc::{AllocError, Global};
 
-/// A memref that is copied whole: its size, whether the loop stores to it, and the names that its copies take. Those of
-/// the copy out stand in the text only where the loop stores to it.
+/// A memref of which a window is copied: its size, the window's place and extent, whether the loop stores to it, and the
+/// names that its copies take. Those of the copy out stand in the text only where the loop stores to it.
 #[derive(Drop)]
 pub(crate) struct Copied {
     pub(crate) memref: Name,
     pub(crate) size: u32,
+    pub(crate) place: u32,
+    pub(crate) extent: u32,
     pub(crate) writes: bool,
     pub(crate) fast: Name,
     pub(crate) in_turn: Name,
@@ -65,6 +67,8 @@ fn with_names(
     Ok(Copied {
         memref: placed.memref.copy(alloc)?,
         size: placed.size,
+        place: placed.place,
+        extent: placed.extent,
         writes: placed.writes,
         fast: made(alloc, next)?,
         in_turn: made(alloc, next + 1)?,

@@ -1,14 +1,16 @@
 // The staged module.
-ghost use Rattle.std.specs.Prelude.{◌≡◌, IfOk, IfSome, map};
+ghost use Rattle.std.specs.Prelude.{◌≡◌, ◌≤◌, [], true, IfOk, IfSome, length, map, nat_eq, if◌then◌else◌};
 ghost use Rattle.copy_emit.specs.Template as template;
 ghost use Rattle.copy_emit.specs.Law as law;
-ghost use Rattle.first_path.specs.Plan.{as_staged};
+ghost use Rattle.copy_emit.specs.FirstPlan as first;
+ghost use Rattle.copy_emit.specs.FirstPlan.{copy_name, turn_count};
+ghost use Rattle.first_path.specs.Plan.{planned_of, as_staged};
 ghost use Rattle.first_path.specs.Form.{loop_of, looped_in_fast, IsFirst};
 ghost use Rattle.first_path.specs.Law.{IsStagedBy, RunsAs};
 
 use crate::emit::{all_after, all_before, redirect_body};
 use crate::form::{Looped, first_loop};
-use crate::place::{Placement, placements};
+use crate::place::{Placement, Turns, placements};
 use crate::plan::{Copied, numbered};
 use affine_ast::{Arg, Bound, Module, Stmt, What};
 use copy_emit::first_plan_agrees;
@@ -23,8 +25,8 @@ fn staged_loop(alloc: Global, plan: &[Copied], looped: Looped<'_>) -> Result<Stm
         line: looped.line,
         what: What::For {
             var: looped.var.copy(alloc)?,
-            lower: Bound::Int(looped.low),
-            upper: Bound::Int(looped.high),
+            lower: Bound::Int(looped.turns.low),
+            upper: Bound::Int(looped.turns.high),
             step: 1,
             body: redirect_body(alloc, plan, looped.body)?,
         },
@@ -80,10 +82,26 @@ fn staged_module(
 #[derive(Drop)]
 pub struct Staged {
     pub module: Module,
-    /// What is staged, in order of first access.
+    /// The memrefs that the loop accesses, in order of first access, each with the window that is staged.
     pub placements: Items<Placement>,
     /// The line of the loop.
     pub line: u32,
+}
+
+/// What is copied: each memref that the loop accesses, and none where it has no turn.
+fn plan_of(
+    alloc: Global,
+    turns: Turns,
+    placements: &[Placement],
+) -> Result<Vec<Copied>, AllocError>
+    requires { length placements.now ≤ 4096 }
+    ensures { IfOk result (λ plan. map as_staged plan.items ≡ first.numbered (copy_name true) (if nat_eq (turn_count turns.low turns.high) 0 then [] else map planned_of placements.now)) }
+{
+    if turns.low < turns.high {
+        numbered(alloc, placements)
+    } else {
+        Ok(Vec::new(alloc))
+    }
 }
 
 /// The staged module of a module of the first form.
@@ -91,8 +109,8 @@ fn staged_first(alloc: Global, module: &Module, looped: Looped<'_>) -> Result<St
     requires { IsFirst «module».now (loop_of looped) }
     ensures { IfOk result (λ staged. IsStagedBy «module».now staged) }
 {
-    let placements = placements(alloc, looped.body)?;
-    let plan = numbered(alloc, placements.as_slice())?;
+    let placements = placements(alloc, looped.turns, looped.body)?;
+    let plan = plan_of(alloc, looped.turns, placements.as_slice())?;
     let staged = staged_module(alloc, module, plan.as_slice(), looped)?;
     Ok(Staged {
         module: staged,

@@ -18,7 +18,7 @@ use Rattle.nest_meaning.specs.Work.{first_turn, last_end, full_work, work}
 use Rattle.prompt_meaning.specs.Device.{put_half, put_halves, started}
 use Rattle.prompt_meaning.specs.Prompt.{acts, prompt_step, prompt}
 use Rattle.copy_emit.specs.FirstPlan.{first_plan, other_letters}
-use Rattle.meaning_numbers.specs.Worked.{Quotients, LoopTurns, Raised, NinthTurn, EvenTurns, WrappedSum, LeastByMinusOne, SeveralResults, Waited, Faulted, Strided, Works, Template, StagedRaise, RaiseIsFirst}
+use Rattle.meaning_numbers.specs.Worked.{Quotients, LoopTurns, Raised, NinthTurn, EvenTurns, WrappedSum, LeastByMinusOne, SeveralResults, Waited, Faulted, Strided, Works, Template, StagedRaise, RaiseIsFirst, Windows, WindowTemplate, StagedPart, NothingStaged}
 use Rattle.meaning_numbers.specs.Modules.{raise, i, A, B, load_a, one_more, add_one, store_b, memref_arg, slow}
 use Rattle.affine_ast.specs.declared.types.Element.TheVariants.{I32}
 use Rattle.affine_ast.specs.declared.stmt.Stmt.{Stmt}
@@ -126,8 +126,32 @@ raise_is_first = record {
   body = refl;
   var = refl;
   stmts =
-      all_cons P load_a (one_more ∷ add_one ∷ store_b ∷ []) (refl, record { named = refl; subscript = refl; typed = refl })
-      (all_cons P one_more (add_one ∷ store_b ∷ []) (refl, refl)
-      (all_cons P add_one (store_b ∷ []) (refl, refl, refl, refl, refl)
+      all_cons P load_a (one_more ∷ add_one ∷ store_b ∷ []) ((refl, refl), record { named = refl; subscript = refl; typed = refl })
+      (all_cons P one_more (add_one ∷ store_b ∷ []) ((refl, refl), refl)
+      (all_cons P add_one (store_b ∷ []) ((refl, refl), refl, refl, refl, refl)
       (all_cons P store_b [] (refl, record { named = refl; subscript = refl; typed = refl }) (all_nil P))));
 }
+
+pub windows : Windows
+windows = (
+  (refl, refl),
+  (refl, refl),
+  (refl, refl),
+  (refl, refl),
+  (refl, refl),
+  (refl, refl),
+  (refl, refl),
+  (refl, refl),
+  (refl, refl),
+)
+
+pub window_template : WindowTemplate
+unfolding first_plan same_name
+window_template = (refl, simp (digit0, digit1, digit2, digit3, digit4, digit5, digit6, digit7) refl)
+
+pub staged_part : StagedPart
+unfolding prompt prompt_step acts put_half put_halves started module_actions start_env actions action_of after_plain turns lower_of upper_of holds_at place_of tag_of results_of holds floor_div ceil_div floor_mod folded direct_step read operation wrapped unsigned put same_name
+staged_part = (simp (nests, values) refl, simp (nests, values) refl)
+
+pub nothing_staged : NothingStaged
+nothing_staged = refl

@@ -1,6 +1,6 @@
 -- Small modules.
 use Rattle.std.specs.Prelude.{ℕ, ℤ, pos, false, List, [], ◌∷◌, ◌++◌, Some, None, codes}
-use Rattle.affine_expr.specs.declared.expr.Expr.{Expr, Dim, Const, Mod}
+use Rattle.affine_expr.specs.declared.expr.Expr.{Expr, Dim, Const, Add, Sub, Mod}
 use Rattle.affine_ast.specs.declared.name.Name.{Name}
 use Rattle.affine_ast.specs.declared.image.Image.{Image}
 use Rattle.affine_ast.specs.declared.image.Cells.{Cells}
@@ -259,4 +259,41 @@ staged_raise =
     ∷ stmt (Store (copy (codes "7")) B (at (Dim 0) (copy (codes "6"))) (slow 8 I32)) ∷ []))
     ∷ stmt (Dealloc (copy (codes "3")) (fast (1 ∷ 8 ∷ []) I32))
     ∷ stmt (Dealloc (copy (codes "0")) (fast (1 ∷ 8 ∷ []) I32))
+    ∷ stmt Return ∷ []
+
+-- the loop from 2 up to 5 alone
+abbrev pub part_loop : FirstLoop
+part_loop = record (raise_loop (pos 5)) { low = pos 2 }
+
+abbrev pub raise_part : Module
+raise_part = record (raise (pos 5)) { body = stmt (For i (Int (pos 2)) (Int (pos 5)) (pos 1) (load_a ∷ one_more ∷ add_one ∷ store_b ∷ [])) ∷ stmt Return ∷ [] }
+
+-- two behind a turn, and two before it in the half
+abbrev pub two_behind : Name → Access
+two_behind v = at (Add (Dim 0) (Const (pos 2))) v
+
+abbrev pub half_before : Name → Access
+half_before v = record { map = record { dims = 1; syms = 0; results = Const (pos 0) ∷ Sub (Dim 0) (Const (pos 2)) ∷ [] }; operands = v ∷ [] }
+
+-- its staged text: a window of three elements from place 2 on
+abbrev pub staged_part : List Stmt
+staged_part =
+    stmt (Alloc (copy (codes "0")) (fast (1 ∷ 3 ∷ []) I32))
+    ∷ stmt (For (copy (codes "1")) (Int (pos 0)) (Int (pos 3)) (pos 1) (
+    stmt (Load (copy (codes "2")) A (two_behind (copy (codes "1"))) (slow 8 I32))
+    ∷ stmt (Store (copy (codes "2")) (copy (codes "0")) (half (copy (codes "1"))) (fast (1 ∷ 3 ∷ []) I32)) ∷ []))
+    ∷ stmt (Alloc (copy (codes "3")) (fast (1 ∷ 3 ∷ []) I32))
+    ∷ stmt (For (copy (codes "4")) (Int (pos 0)) (Int (pos 3)) (pos 1) (
+    stmt (Load (copy (codes "5")) B (two_behind (copy (codes "4"))) (slow 8 I32))
+    ∷ stmt (Store (copy (codes "5")) (copy (codes "3")) (half (copy (codes "4"))) (fast (1 ∷ 3 ∷ []) I32)) ∷ []))
+    ∷ stmt (For i (Int (pos 2)) (Int (pos 5)) (pos 1) (
+    stmt (Load zero_ (copy (codes "0")) (half_before i) (fast (1 ∷ 3 ∷ []) I32))
+    ∷ stmt (Constant c (pos 1) (scalar.Int I32))
+    ∷ stmt (Binary one_ op.Add zero_ c (scalar.Int I32))
+    ∷ stmt (Store one_ (copy (codes "3")) (half_before i) (fast (1 ∷ 3 ∷ []) I32)) ∷ []))
+    ∷ stmt (For (copy (codes "6")) (Int (pos 0)) (Int (pos 3)) (pos 1) (
+    stmt (Load (copy (codes "7")) (copy (codes "3")) (half (copy (codes "6"))) (fast (1 ∷ 3 ∷ []) I32))
+    ∷ stmt (Store (copy (codes "7")) B (two_behind (copy (codes "6"))) (slow 8 I32)) ∷ []))
+    ∷ stmt (Dealloc (copy (codes "3")) (fast (1 ∷ 3 ∷ []) I32))
+    ∷ stmt (Dealloc (copy (codes "0")) (fast (1 ∷ 3 ∷ []) I32))
     ∷ stmt Return ∷ []

@@ -20,6 +20,10 @@ ghost use Rattle.meaning_numbers.specs.Worked.{
   Template,
   StagedRaise,
   RaiseIsFirst,
+  Windows,
+  WindowTemplate,
+  StagedPart,
+  NothingStaged,
 };
 
 /// Values of expressions, turns of loops, the direct meaning of small modules and their work.
@@ -44,4 +48,12 @@ pub fn prompt_numbers()
     ensures template { Template }
     ensures staged_raise { StagedRaise }
     ensures raise_is_first { RaiseIsFirst }
+{}
+
+/// Windows of memrefs round a loop, and a loop over a part of its memrefs, staged: statement by statement and in its run.
+pub fn window_numbers()
+    ensures windows { Windows }
+    ensures window_template { WindowTemplate }
+    ensures staged_part { StagedPart }
+    ensures nothing_staged { NothingStaged }
 {}

@@ -14,12 +14,12 @@ use Rattle.nest_meaning.specs.Work.{Ranges, first_turn, last_end, turn_range, tu
 use Rattle.nest_meaning.specs.Bounded.{TurnsBounded}
 
 -- what holds of each element
-abbrev Every : {A : Type 0} → (A → Type 0) → List A → Type 0
+abbrev pub Every : {A : Type 0} → (A → Type 0) → List A → Type 0
 Every Q [] = Unit {0}
 Every Q (a ∷ xs) = Q a × Every Q xs
 
 -- a turn lies between the bounds
-abbrev Between : ℤ → ℤ → ℤ → Type 0
+abbrev pub Between : ℤ → ℤ → ℤ → Type 0
 Between a b t = (a ≤ℤ t) × (t <ℤ b)
 
 turns_lie : (n : ℕ) (a low b s : ℤ) → low ≤ℤ a → pos 0 <ℤ s → Every (Between low b) (turns_within n a b s)
@@ -30,7 +30,7 @@ turns_lie (suc n) a low b s h k = by (int_lt a b) refl (turns_lie n (a +ℤ s) l
     by true t more = let less : a <ℤ b = grind (arith, ints, t) in ((h, less), more)
     by false t more = tt
 
-all_between : (a b s : ℤ) → Every (Between a b) (turns a b s)
+pub all_between : (a b s : ℤ) → Every (Between a b) (turns a b s)
 unfolding turns
 all_between a b s = turns_lie (gap (b -ℤ a)) a a b (int_max (pos 1) s) (omega (arith, ints)) (grind (arith, ints))
 

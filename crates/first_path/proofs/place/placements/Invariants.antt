@@ -6,6 +6,6 @@ use Rattle.first_path.proofs.place.placements.Given as goal
 
 abbrev pub invariant-loop-stmt : goal.invariant-loop-stmt
 invariant-loop-stmt l = record {
-  noted : map planned_of l.placements.items ≡ fold note_stmt [] (take l.stmt-index l.body);
+  noted : map planned_of l.placements.items ≡ fold (note_stmt l.turns.low l.turns.high) [] (take l.stmt-index l.body);
   few : length l.placements.items ≤ l.stmt-index;
 }

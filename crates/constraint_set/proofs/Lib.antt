@@ -1,0 +1,15 @@
+pub mod Tables
+pub mod Sums
+pub mod Dots
+pub mod Steps
+pub mod Lifting
+pub mod Tidying
+pub mod Pairs
+pub mod Eliminating
+pub mod Gone
+pub mod Emptiness
+pub mod Tightest
+pub mod Extremes
+pub mod Valued
+pub mod Reaching
+pub mod Bounding

@@ -1,0 +1,23 @@
+//! The law of printing and reading.
+
+ghost use Rattle.affine_ast.specs.Spelling.{spelling};
+ghost use Rattle.affine_ast.specs.declared.module.Module.{Module};
+ghost use Rattle.affine_grammar.specs.Spelling.{Spells};
+ghost use Rattle.printed_texts.specs.Lines.{AreSameButLines};
+ghost use Rattle.printed_texts.specs.Nesting.{ModuleNests};
+ghost use Rattle.std.specs.Prelude.{◌≡◌, ◌<◌, ◌^◌, ℕ, List, length};
+
+/// Where a text spells a module, the printed text of the module spells it again, with the lines of its
+/// own: another module, the same but for lines, whose printed text is the same.
+///
+/// `ModuleNests` asks that each expression is printed with at most 128 parentheses and negations inside
+/// one another, or negates no 0. A text that spells a negated 0 as `--0` nests one level less than its
+/// printed text, `-(0)`: 129 signs and a `0` are an expression of a text, and what is printed for it, 128
+/// signs and `(0)`, is none. Each expression of a text that negates no 0 is printed within the limit.
+///
+/// The length of the text is bounded since std's `decimal` writes 64 digits at most: past the bound a map
+/// could have more parameters than it numbers.
+pub fn printed_texts_spell()
+    ensures again { (source : List ℕ) (m : Module) → length source < 2 ^ 64 → Spells source m → ModuleNests m → (n : Module) × (AreSameButLines m n × Spells (spelling m) n) }
+    ensures stable { (m n : Module) → AreSameButLines m n → spelling m ≡ spelling n }
+{}
