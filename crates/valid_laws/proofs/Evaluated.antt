@@ -1,7 +1,6 @@
 -- The expressions of a valid module may be evaluated wherever a run comes to them.
-use Rattle.std.proofs.Common.{◌≡◌, ℕ, zero, suc, ◌+◌, ◌≤◌, ℤ, pos, ◌≤ℤ◌, ◌<ℤ◌, ◌-ℤ◌, Bool, true, false, List, [], ◌∷◌, map, take, drop, length, refl, sym, ap, subst, ◌∙◌, arith}
-use Rattle.std.specs.Prelude.{◌&&◌, Option, Some, None, is_some, IsSome, nat_eq, All}
-use Rattle.std.specs.Int.{int_max}
+use Rattle.std.proofs.Common.{◌≡◌, ℕ, zero, suc, ◌+◌, ◌≤◌, ℤ, ◌≤ℤ◌, ◌<ℤ◌, true, List, [], ◌∷◌, map, take, drop, length, refl, ap, ◌∙◌, arith}
+use Rattle.std.specs.Prelude.{◌&&◌, Option, Some, None, is_some, IsSome, nat_eq}
 use Rattle.std.specs.List.{list_all}
 use Rattle.std.proofs.lemmas.Bool.{and_parts}
 use Rattle.std.proofs.lemmas.Int.{ints}
@@ -9,7 +8,7 @@ use Rattle.affine_expr.specs.declared.expr.Expr.{Expr}
 use Rattle.affine_expr.specs.declared.map.Constraint.{Constraint}
 use Rattle.affine_expr.specs.declared.map.Interval.{Interval}
 use Rattle.affine_expr.specs.declared.map.Set.{Set}
-use Rattle.affine_expr.specs.Bounded.{ranges, range_at, bounded, shown, interval_of, IsIn, AreIn, Evaluable, AllEvaluable}
+use Rattle.affine_expr.specs.Bounded.{ranges, bounded, shown, interval_of, AreIn, Evaluable, AllEvaluable}
 use Rattle.affine_expr.specs.Pure.{is_pure, has_leaves_below}
 use Rattle.affine_expr.specs.Spread.{Range, Spread, Within}
 use Rattle.affine_ast.specs.declared.module.Module.{Module}
@@ -190,9 +189,12 @@ evaluable_of_told (Branch line set names first has other rest) a t rho e af bd h
     let j = judged_passed line (rule_of_condition (counted a) set names) _ t h in
     let p = then_passed (told first (in_condition (counted a))) (λ t. then_told (told other (in_condition (with_totals t a))) (λ u. told rest (with_totals u a))) t j.1 in
     let q = then_passed (told other (in_condition (with_totals p.0 a))) (λ u. told rest (with_totals u a)) t p.2 in
-    let k = condition_holds (counted a) set names j.0 in
-    (set_evaluable e rho holds set names k.fits k.pure bd.0, evaluable_of_told first (in_condition (counted a)) p.0 rho e af.0 bd.1 holds p.1,
-     evaluable_of_told other (in_condition (with_totals p.0 a)) q.0 rho (behind first e) af.1 bd.2 holds q.1, evaluable_of_told rest (with_totals q.0 a) t rho (behind other (behind first e)) af.2 bd.3 holds q.2)
+    let k = condition_holds (counted a) set names j.0 in (
+      set_evaluable e rho holds set names k.fits k.pure bd.0,
+      evaluable_of_told first (in_condition (counted a)) p.0 rho e af.0 bd.1 holds p.1,
+      evaluable_of_told other (in_condition (with_totals p.0 a)) q.0 rho (behind first e) af.1 bd.2 holds q.1,
+      evaluable_of_told rest (with_totals q.0 a) t rho (behind other (behind first e)) af.2 bd.3 holds q.2,
+    )
 evaluable_of_told (Does line p rest) a t rho e af bd holds h =
     let j = judged_passed line (rule_of_plain (counted a) p rest) _ t h in
     let k = plain_holds (counted a) p rest j.0 in
