@@ -1,10 +1,9 @@
 -- Intervals of operands, and the expressions over them.
-use Rattle.std.proofs.Common.{◌≡◌, ℕ, zero, suc, ◌+◌, ◌≤◌, Bool, true, false, List, [], ◌∷◌, ◌++◌, map, take, drop, length, refl, sym, ap, subst, ◌∙◌, arith}
+use Rattle.std.proofs.Common.{◌≡◌, ℕ, zero, suc, ◌+◌, ◌≤◌, Bool, true, false, List, [], ◌∷◌, ◌++◌, map, take, drop, length, refl, sym, ap, ◌∙◌, arith}
 use Rattle.std.specs.Prelude.{◌&&◌, Option, Some, None, is_some, nat_eq}
 use Rattle.std.specs.List.{list_all}
 use Rattle.std.proofs.lemmas.Bool.{and_parts}
 use Rattle.affine_expr.specs.declared.expr.Expr.{Expr}
-use Rattle.affine_expr.specs.declared.map.Constraint.{Constraint}
 use Rattle.affine_expr.specs.declared.map.Interval.{Interval}
 use Rattle.affine_expr.specs.declared.map.Set.{Set}
 use Rattle.affine_expr.specs.Bounded.{range_at, ranges, bounded, shown, interval_of}

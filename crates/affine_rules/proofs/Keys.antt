@@ -1,5 +1,5 @@
 -- Look-ups in tables whose last entry is new.
-use Rattle.std.proofs.Common.{◌≡◌, ℕ, suc, Bool, true, false, List, [], ◌∷◌, ◌++◌, take, length, cond, refl, sym, ap, subst, ◌∙◌}
+use Rattle.std.proofs.Common.{◌≡◌, Bool, true, false, List, [], ◌∷◌, ◌++◌, take, length, refl, sym, ap, ◌∙◌}
 use Rattle.std.specs.Prelude.{◌&&◌, ◌||◌, Option, Some, None, if◌then◌else◌}
 use Rattle.std.specs.Str.{bytes_eq}
 use Rattle.std.specs.Map.{lookup}
@@ -11,7 +11,6 @@ use mathlib.Core.Bool.{beq}
 use Rattle.affine_ast.specs.declared.name.Name.{Name}
 use Rattle.affine_ast.specs.Names.{same_bool, same_name, put}
 use Rattle.affine_ast.proofs.Names.{put-same, put-other, same_name-eq, same_name-sym}
-use Rattle.affine_ast.specs.Scope as known
 use Rattle.affine_rules.specs.declared.scope.Key.{Key}
 use Rattle.affine_rules.specs.declared.scope.Binding.{Binding}
 use Rattle.affine_rules.specs.Scoped.{binding_of, is_key, scope_of, names_of}

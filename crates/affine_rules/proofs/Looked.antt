@@ -1,5 +1,5 @@
 -- What a look-up finds, as what stands in the scope.
-use Rattle.std.proofs.Common.{◌≡◌, Bool, Bor, refl, sym, ap, ◌∙◌}
+use Rattle.std.proofs.Common.{◌≡◌, Bor, ap, ◌∙◌}
 use Rattle.std.specs.Prelude.{Option, Some, None, is_some, option_copied}
 use Rattle.std.specs.Option.{option_map}
 use Rattle.affine_ast.specs.Scope as known

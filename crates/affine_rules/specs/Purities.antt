@@ -1,5 +1,5 @@
 -- What the code finds of an expression's purity.
-use Rattle.std.specs.Prelude.{◌≡◌, ℤ, Bool, true, false, Option, Some, None, IsSome}
+use Rattle.std.specs.Prelude.{◌≡◌, true, false, Some, None, IsSome}
 use Rattle.affine_expr.specs.Pure.{Purity}
 use Rattle.affine_rules.specs.declared.purity.Found.{Found}
 use Rattle.affine_rules.specs.declared.purity.Found.TheVariants.{Impure, Varies, Fixed, Large, Unknown}

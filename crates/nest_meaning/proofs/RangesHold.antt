@@ -40,18 +40,18 @@ use Rattle.nest_meaning.proofs.WorkLaws.{work_bounds}
 abbrev pub RangesHold : Env → Ranges → Type 0
 RangesHold e rho = (n : Name) → Within (number (e.known n)) (rho n)
 
-numbers_in : (e : Env) (rho : Ranges) (names : List Name) → RangesHold e rho → InRanges (numbers e names) (map rho names)
+pub numbers_in : (e : Env) (rho : Ranges) (names : List Name) → RangesHold e rho → InRanges (numbers e names) (map rho names)
 numbers_in e rho [] h = tt
 numbers_in e rho (n ∷ names) h = (h n, numbers_in e rho names h)
 
-take_in : (k : ℕ) (zs : List ℤ) (rs : List Range) → InRanges zs rs → InRanges (take k zs) (take k rs)
+pub take_in : (k : ℕ) (zs : List ℤ) (rs : List Range) → InRanges zs rs → InRanges (take k zs) (take k rs)
 take_in zero zs rs h = tt
 take_in (suc k) [] [] h = tt
 take_in (suc k) (z ∷ zs) (r ∷ rs) h = (h.0, take_in k zs rs h.1)
 take_in (suc k) [] (r ∷ rs) h = absurd h
 take_in (suc k) (z ∷ zs) [] h = absurd h
 
-drop_in : (k : ℕ) (zs : List ℤ) (rs : List Range) → InRanges zs rs → InRanges (drop k zs) (drop k rs)
+pub drop_in : (k : ℕ) (zs : List ℤ) (rs : List Range) → InRanges zs rs → InRanges (drop k zs) (drop k rs)
 drop_in zero zs rs h = h
 drop_in (suc k) [] [] h = tt
 drop_in (suc k) (z ∷ zs) (r ∷ rs) h = drop_in k zs rs h.1
@@ -111,7 +111,7 @@ least_is [] = refl
 least_is (z ∷ zs) = refl
 
 -- bounds of loops
-lower_in : (e : Env) (rho : Ranges) (b : Bound) → RangesHold e rho → AffineBound b → first_turn rho b ≤ℤ lower_of e b
+pub lower_in : (e : Env) (rho : Ranges) (b : Bound) → RangesHold e rho → AffineBound b → first_turn rho b ≤ℤ lower_of e b
 unfolding first_turn lower_of
 lower_in e rho (bound.Int z) h a = omega (arith, ints)
 lower_in e rho (bound.Value n) h a = (h n).low
@@ -119,7 +119,7 @@ lower_in e rho (bound.Map at) h a =
     subst (λ z. over_all int_max (map (λ (r : Range). r.least) (ranges_at rho at)) ≤ℤ z) (sym (greatest_is (results_of e at)))
     (all_low int_max max_mono (results_of e at) (ranges_at rho at) (results_in e rho at h a))
 
-upper_in : (e : Env) (rho : Ranges) (b : Bound) → RangesHold e rho → AffineBound b → upper_of e b ≤ℤ last_end rho b
+pub upper_in : (e : Env) (rho : Ranges) (b : Bound) → RangesHold e rho → AffineBound b → upper_of e b ≤ℤ last_end rho b
 unfolding last_end upper_of
 upper_in e rho (bound.Int z) h a = omega (arith, ints)
 upper_in e rho (bound.Value n) h a = (h n).high
@@ -139,7 +139,7 @@ picked_in Max zs rs h = record {
 }
 
 -- one name more
-put_in : (e : Env) (rho : Ranges) (v : Name) (o : Option ℤ) (r : Range) → Within (number o) r → RangesHold e rho → RangesHold (record e { known = put e.known v o }) (put rho v r)
+pub put_in : (e : Env) (rho : Ranges) (v : Name) (o : Option ℤ) (r : Range) → Within (number o) r → RangesHold e rho → RangesHold (record e { known = put e.known v o }) (put rho v r)
 put_in e rho v o r h k n = by (same_name v n) refl
   where
     by : (t : Bool) → same_name v n ≡ t → Within (number (put e.known v o n)) (put rho v r n)
@@ -163,7 +163,7 @@ constant_in : (e : Env) (rho : Ranges) (r : Name) (z : ℤ) (ty : Scalar) → Ra
 constant_in e rho r z (scalar.Int element) h = put_in e rho r None (only (pos 0)) zero_in h
 constant_in e rho r z scalar.Index h = put_in e rho r (Some z) (only z) (self_in z) h
 
-plain_in : (p : Plain) (e : Env) (rho : Ranges) → AffinePlain p → RangesHold e rho → RangesHold (after_plain p e) (ranges_after p rho)
+pub plain_in : (p : Plain) (e : Env) (rho : Ranges) → AffinePlain p → RangesHold e rho → RangesHold (after_plain p e) (ranges_after p rho)
 unfolding after_plain
 plain_in (Value r pick at) e rho a h = put_in e rho r (Some (picked pick (results_of e at))) (picked_range pick (ranges_at rho at)) (picked_in pick (results_of e at) (ranges_at rho at) (results_in e rho at h a)) h
 plain_in (Load r m at ty) e rho a h = put_in e rho r None (only (pos 0)) zero_in h
@@ -219,7 +219,7 @@ args_in : (args : List Arg) (p : Placed) (rho : Ranges) (cells : List Cells) →
 args_in [] p rho cells fits h = h
 args_in (a ∷ args) p rho cells fits h = arg_in args a.kind a.name a.line p rho cells (λ p rho cells f h. args_in args p rho cells f h) fits h
 
-start_in : (m : Module) (memory : Image) → Fits m memory → RangesHold (start_env m.args memory.symbols) (start_ranges m.args)
+pub start_in : (m : Module) (memory : Image) → Fits m memory → RangesHold (start_env m.args memory.symbols) (start_ranges m.args)
 unfolding start_env
 start_in m memory fits = args_in m.args (record { env = empty_env; memrefs = 0; elements = 0; symbols = memory.symbols }) (λ n. only (pos 0)) memory.memrefs fits.fits (λ n. zero_in)
 

@@ -1,3 +1,4 @@
 pub mod Purities
 pub mod Passing
 pub mod Reach
+pub mod Evaluated

@@ -1,9 +1,9 @@
 -- The rule on products and divisions says of an expression what the laws of ranges call affine.
-use Rattle.std.proofs.Common.{◌≡◌, ℤ, Bool, true, false, List, [], ◌∷◌, refl, sym, ap, subst, ◌∙◌}
+use Rattle.std.proofs.Common.{◌≡◌, ℤ, true, List, [], ◌∷◌, refl, sym, ap, subst, ◌∙◌}
 use Rattle.std.specs.Prelude.{◌&&◌, ◌||◌, is_some, neg_ℤ, ◌+ℤ◌, ◌-ℤ◌, ◌*ℤ◌, Option, Some, None}
 use Rattle.std.specs.List.{list_all}
 use Rattle.std.proofs.lemmas.Bool.{and_parts}
-use Rattle.affine_expr.specs.declared.expr.Expr.{Expr, map-Expr, roll-Expr, ind-Expr, fold-Expr, fold-roll-Expr}
+use Rattle.affine_expr.specs.declared.expr.Expr.{Expr, map-Expr, roll-Expr, ind-Expr, fold-roll-Expr}
 use Rattle.affine_expr.specs.declared.expr.Expr.TheOpen.{Expr-F}
 use Rattle.affine_expr.specs.Spread.{one_fixed, both_fixed}
 use Rattle.affine_expr.specs.Value.{floor_div, ceil_div, floor_mod}

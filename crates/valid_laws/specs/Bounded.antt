@@ -1,5 +1,5 @@
 -- Texts whose affine values stay within 2 ^ 62.
-use Rattle.std.specs.Prelude.{◌≡◌, ℤ, true, List, [], ◌∷◌, map, take, drop}
+use Rattle.std.specs.Prelude.{◌≡◌, true, List, map, take, drop}
 use Rattle.std.specs.List.{list_all}
 use Rattle.affine_expr.specs.declared.map.Set.{Set}
 use Rattle.affine_ast.specs.declared.name.Name.{Name}

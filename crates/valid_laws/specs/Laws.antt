@@ -5,6 +5,9 @@ use Rattle.affine_ast.specs.Validity.{IsValid}
 use Rattle.nest_meaning.specs.Pure.{AffineNest}
 use Rattle.nest_meaning.specs.Work.{start_ranges}
 use Rattle.valid_laws.specs.Bounded.{BoundedNest}
+use Rattle.valid_laws.specs.Evaluable.{EvaluableNest}
+use Rattle.affine_ast.specs.declared.image.Image.{Image}
+use Rattle.nest_meaning.specs.Memory.{Fits, start_env}
 
 -- its bounds and values are affine, and its steps positive
 abbrev pub ValidIsAffine : Type 0
@@ -13,3 +16,7 @@ ValidIsAffine = (m : Module) → IsValid m → AffineNest (nest m.body)
 -- all its affine values stay within 2 ^ 62, over the ranges of the names in scope
 abbrev pub ValidIsBounded : Type 0
 ValidIsBounded = (m : Module) → IsValid m → BoundedNest (nest m.body) (start_ranges m.args)
+
+-- from every memory that fits, each of its expressions may be evaluated wherever the list of actions comes to it
+abbrev pub ValidIsEvaluable : Type 0
+ValidIsEvaluable = (m : Module) → IsValid m → (memory : Image) → Fits m memory → EvaluableNest (nest m.body) (start_env m.args memory.symbols)

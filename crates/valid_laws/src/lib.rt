@@ -3,7 +3,7 @@
 //! The laws of ranges of `nest_meaning` ask for the first, and say that the numbers of a run lie in the ranges of the second. The crate stands on `affine_ast` and `nest_meaning`.
 #![tactic(auto)]
 
-ghost use Rattle.valid_laws.specs.Laws.{ValidIsAffine, ValidIsBounded};
+ghost use Rattle.valid_laws.specs.Laws.{ValidIsAffine, ValidIsBounded, ValidIsEvaluable};
 
 /// The bounds and the values of a valid module are affine, and its steps are positive: what the bound on the actions by the work and
 /// the ranges of the walk ask for.
@@ -15,4 +15,10 @@ pub fn valid_is_affine()
 /// of loops, the rows of conditions, the subscripts and the values of statements.
 pub fn valid_is_bounded()
     ensures { ValidIsBounded }
+{}
+
+/// From every memory that fits a valid module, each of its expressions may be evaluated wherever the list of its actions comes to it,
+/// in each turn of the loops round it: it is pure, its leaves are among its operands, and each of its parts stays within 2^62.
+pub fn valid_is_evaluable()
+    ensures { ValidIsEvaluable }
 {}

@@ -1,4 +1,4 @@
-use Rattle.std.proofs.Common.{◌≡◌, ◌∙◌, ap, sym, arith, List, [], ◌∷◌, ◌++◌, map, take, length, ◌<◌, ℕ, ◌+◌, get_or}
+use Rattle.std.proofs.Common.{◌≡◌, ◌∙◌, ap, sym, List, [], ◌∷◌, ◌++◌, map, take, length, ◌<◌, ℕ, ◌+◌, get_or}
 use Rattle.std.proofs.lemmas.List.{take_more, map-append}
 use Rattle.affine_expr.specs.declared.map.Interval.{Interval}
 use Rattle.affine_expr.specs.Bounded.{range_at, ranges}

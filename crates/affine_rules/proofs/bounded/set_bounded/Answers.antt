@@ -1,11 +1,10 @@
-use Rattle.std.proofs.Common.{◌≡◌, ◌∙◌, ap, sym, take, drop, map}
+use Rattle.std.proofs.Common.{◌∙◌, ap, take, drop}
 use Rattle.std.specs.List.{list_all}
 use Rattle.affine_expr.specs.Bounded.{ranges}
-use Rattle.affine_expr.specs.Pure.{is_pure, has_leaves_below}
-use Rattle.affine_ast.specs.Rules.{is_small_dimension, access_pure, set_pure, row_pure, row_has_leaves, has_interval, row_bounded}
+use Rattle.affine_ast.specs.Rules.{is_small_dimension, set_pure, row_pure, row_bounded}
 use Rattle.affine_ast.specs.Scope.{ranges_in}
 use Rattle.affine_rules.specs.Scoped.{scope_of}
-use Rattle.affine_rules.proofs.Intervals.{access_found, access_large, leaves_among, set_found, set_large, set_leaves_among}
+use Rattle.affine_rules.proofs.Intervals.{set_found, set_large, set_leaves_among}
 use Rattle.affine_rules.proofs.bounded.set_bounded.Goals as goal
 
 pub returns-then-not-are_small_dimensions : goal.returns-then-not-are_small_dimensions

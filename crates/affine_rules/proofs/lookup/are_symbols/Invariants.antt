@@ -1,7 +1,6 @@
 use Rattle.std.proofs.Common.{◌≡◌, drop}
 use Rattle.std.specs.List.{list_all}
-use Rattle.affine_ast.specs.declared.types.Scalar.TheVariants.{Index}
-use Rattle.affine_ast.specs.Rules.{is_in, is_value, is_dimension, is_symbol, is_of, is_small_dimension}
+use Rattle.affine_ast.specs.Rules.{is_symbol}
 use Rattle.affine_rules.specs.Scoped.{scope_of}
 use Rattle.affine_rules.proofs.lookup.are_symbols.Given as goal
 

@@ -1,8 +1,7 @@
-use Rattle.std.proofs.Common.{◌≡◌, ◌∙◌, ap, sym, [], ◌∷◌, ◌++◌, List}
+use Rattle.std.proofs.Common.{◌∙◌, ap}
 use Rattle.std.specs.Option.{option_map}
-use Rattle.affine_rules.specs.contracts.scope.KeyPartialEq.TheImpl as impl
-use Rattle.affine_rules.specs.Scoped.{scope_of, names_of, binding_of}
-use Rattle.affine_rules.proofs.Keys.{scope_more, names_more, found_by, listed_by, absent, take_before}
+use Rattle.affine_rules.specs.Scoped.{scope_of, binding_of}
+use Rattle.affine_rules.proofs.Keys.{found_by}
 use Rattle.affine_rules.proofs.scope.found.Goals as goal
 
 pub returns : goal.returns

@@ -1,8 +1,5 @@
-use Rattle.std.proofs.Common.{◌≡◌, ◌∙◌, ap, sym, [], ◌∷◌, ◌++◌, List}
-use Rattle.std.specs.Option.{option_map}
-use Rattle.affine_rules.specs.contracts.scope.KeyPartialEq.TheImpl as impl
-use Rattle.affine_rules.specs.Scoped.{scope_of, names_of, binding_of}
-use Rattle.affine_rules.proofs.Keys.{scope_more, names_more, found_by, listed_by, absent, take_before, new_last}
+use Rattle.std.proofs.Common.{◌∙◌, [], ◌∷◌, ◌++◌}
+use Rattle.affine_rules.proofs.Keys.{names_more, listed_by, take_before, new_last}
 use Rattle.affine_rules.proofs.scope.release.Goals as goal
 
 pub returns-clause-names : goal.returns-clause-names

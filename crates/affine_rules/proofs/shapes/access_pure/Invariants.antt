@@ -1,8 +1,6 @@
 use Rattle.std.proofs.Common.{◌≡◌, drop}
 use Rattle.std.specs.List.{list_all}
-use Rattle.std.specs.Prelude.{nat_le}
-use Rattle.affine_expr.specs.Pure.{is_pure, has_leaves_below}
-use Rattle.affine_ast.specs.Rules.{row_has_leaves, row_pure}
+use Rattle.affine_expr.specs.Pure.{is_pure}
 use Rattle.affine_rules.proofs.shapes.access_pure.Given as goal
 
 abbrev pub invariant-loop-expr : goal.invariant-loop-expr

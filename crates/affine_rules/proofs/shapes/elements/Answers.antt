@@ -1,4 +1,4 @@
-use Rattle.std.proofs.Common.{◌≡◌, ◌∙◌, ap, sym, arith, rules, ◌+◌, drop}
+use Rattle.std.proofs.Common.{arith}
 use Rattle.affine_ast.specs.Sizes.{product}
 use Rattle.affine_rules.proofs.Products.{capped_step, positive_step, capped_end}
 use Rattle.affine_rules.proofs.shapes.elements.Goals as goal
