@@ -12,7 +12,7 @@ use Rattle.affine_driver.specs.Reading.{Refuses, IsNotRead, IsNotStaged}
 -- what isn't read is refused under every command
 pub unread : (command : Command) (bytes : List ℕ) (ending : Ending) → IsNotRead bytes ending → Refuses command bytes ending
 unread command bytes (Text line column) h = h
-unread command bytes (Invalid line rule) h = record { input = h.0; spelled = h.1; broken = inl h.2 }
+unread command bytes (Invalid line rule) h = record { input = h.0; spelled = h.1.0; broken = inl h.1.1 }
 unread command bytes Memory h = tt
 unread command bytes Done h = h
 unread command bytes Words h = h

@@ -5,21 +5,73 @@ use std::test::Fail;
 
 /// Modules that break a rule: the text, the line and the rule.
 const BROKEN: [(&[u8], u32, u8); 14] = [
-    (b"func.func @f(%A: memref<8xi32>) {\n  %0 = affine.load %A[%i] : memref<8xi32>\n  return\n}\n", 2, 1),
-    (b"func.func @f(%A: memref<8xi32>, %A: memref<8xi32>) {\n  return\n}\n", 1, 2),
-    (b"func.func @f(%n: index {copy.range = [2, 1]}) {\n  return\n}\n", 1, 3),
-    (b"func.func @f(%A: memref<8xi32>) {\n  affine.for %i = 0 to 8 {\n    %0 = affine.load %A[symbol(%i)] : memref<8xi32>\n  }\n  return\n}\n", 3, 4),
-    (b"func.func @f(%A: memref<8xi32>) {\n  %0 = affine.load %A[0] : memref<8xi64>\n  return\n}\n", 2, 5),
-    (b"func.func @f() {\n  %c = arith.constant 128 : i8\n  return\n}\n", 2, 6),
-    (b"func.func @f(%A: memref<8xi32>) {\n  %0 = affine.load %A[0, 0] : memref<8xi32>\n  return\n}\n", 2, 7),
-    (b"func.func @f(%A: memref<8xi32>) {\n  affine.for %i = 0 to 8 {\n    %0 = affine.load %A[%i mod 0] : memref<8xi32>\n  }\n  return\n}\n", 3, 8),
-    (b"func.func @f(%A: memref<8xi32>) {\n  affine.for %i = 0 to 4 {\n    %0 = affine.load %A[%i * 2305843009213693952] : memref<8xi32>\n  }\n  return\n}\n", 3, 9),
-    (b"func.func @f(%A: memref<8xi32>) {\n  memref.dealloc %A : memref<8xi32>\n  return\n}\n", 2, 10),
-    (b"func.func @f() {\n  %F = memref.alloc() : memref<1x4xi32, 1>\n  return\n}\n", 2, 10),
-    (b"func.func @f() {\n  %F = memref.alloc() : memref<1x4xi32, 1>\n  memref.dealloc %F : memref<1x4xi32, 1>\n  %0 = affine.load %F[0, 0] : memref<1x4xi32, 1>\n  return\n}\n", 4, 10),
+    (
+        b"func.func @f(%A: memref<8xi32>) {\n  %0 = affine.load %A[%i] : memref<8xi32>\n  return\n}\n",
+        2,
+        1,
+    ),
+    (
+        b"func.func @f(%A: memref<8xi32>, %A: memref<8xi32>) {\n  return\n}\n",
+        1,
+        2,
+    ),
+    (
+        b"func.func @f(%n: index {copy.range = [2, 1]}) {\n  return\n}\n",
+        1,
+        3,
+    ),
+    (
+        b"func.func @f(%A: memref<8xi32>) {\n  affine.for %i = 0 to 8 {\n    %0 = affine.load %A[symbol(%i)] : memref<8xi32>\n  }\n  return\n}\n",
+        3,
+        4,
+    ),
+    (
+        b"func.func @f(%A: memref<8xi32>) {\n  %0 = affine.load %A[0] : memref<8xi64>\n  return\n}\n",
+        2,
+        5,
+    ),
+    (
+        b"func.func @f() {\n  %c = arith.constant 128 : i8\n  return\n}\n",
+        2,
+        6,
+    ),
+    (
+        b"func.func @f(%A: memref<8xi32>) {\n  %0 = affine.load %A[0, 0] : memref<8xi32>\n  return\n}\n",
+        2,
+        7,
+    ),
+    (
+        b"func.func @f(%A: memref<8xi32>) {\n  affine.for %i = 0 to 8 {\n    %0 = affine.load %A[%i mod 0] : memref<8xi32>\n  }\n  return\n}\n",
+        3,
+        8,
+    ),
+    (
+        b"func.func @f(%A: memref<8xi32>) {\n  affine.for %i = 0 to 4 {\n    %0 = affine.load %A[%i * 2305843009213693952] : memref<8xi32>\n  }\n  return\n}\n",
+        3,
+        9,
+    ),
+    (
+        b"func.func @f(%A: memref<8xi32>) {\n  memref.dealloc %A : memref<8xi32>\n  return\n}\n",
+        2,
+        10,
+    ),
+    (
+        b"func.func @f() {\n  %F = memref.alloc() : memref<1x4xi32, 1>\n  return\n}\n",
+        2,
+        10,
+    ),
+    (
+        b"func.func @f() {\n  %F = memref.alloc() : memref<1x4xi32, 1>\n  memref.dealloc %F : memref<1x4xi32, 1>\n  %0 = affine.load %F[0, 0] : memref<1x4xi32, 1>\n  return\n}\n",
+        4,
+        10,
+    ),
     (b"func.func @f(%A: memref<0xi32>) {\n  return\n}\n", 1, 11),
     // an interval that reaches 2^62 exactly is no fault; the type of the next line is one, and its name another
-    (b"func.func @f(%A: memref<8xi32>) {\n  affine.for %i = 0 to 3 {\n    %0 = affine.load %A[%i * 2305843009213693952] : memref<8xi32>\n    affine.store %0, %B[%i] : memref<8xi64>\n  }\n  return\n}\n", 4, 1),
+    (
+        b"func.func @f(%A: memref<8xi32>) {\n  affine.for %i = 0 to 3 {\n    %0 = affine.load %A[%i * 2305843009213693952] : memref<8xi32>\n    affine.store %0, %B[%i] : memref<8xi64>\n  }\n  return\n}\n",
+        4,
+        1,
+    ),
 ];
 
 const TRANSFER: &[u8] =
@@ -45,7 +97,8 @@ fn a_valid_module_is_sealed(rt: HostRuntime) -> Result<(), Fail> {
     let verified = verify(alloc, parse(alloc, TRANSFER)?)?;
     assert_eq!(rt; verified.plain_fault(), Some(2));
     assert_eq!(rt; verified.module().args.len(), 1);
-    let deep = b"func.func @f(%A: memref<8xi32>) {\n  affine.for %i = 0 to 8 {\n    %0 = affine.load %A[%i + 0 * -(5)] : memref<8xi32>\n  }\n  return\n}\n";
+    let deep =
+        b"func.func @f(%A: memref<8xi32>) {\n  affine.for %i = 0 to 8 {\n    %0 = affine.load %A[%i + 0 * -(5)] : memref<8xi32>\n  }\n  return\n}\n";
     let plain = verify(alloc, parse(alloc, deep)?)?;
     assert_eq!(rt; plain.plain_fault(), None);
     Ok(())
