@@ -1,0 +1,5 @@
+pub mod Ends
+pub mod Arguments
+pub mod Statements
+pub mod Counts
+pub mod Modules

@@ -1,0 +1,5 @@
+use Rattle.first_rules.proofs.Modules.{first_valid}
+use Rattle.first_rules.proofs.first_form_rules.Goals as goal
+
+pub returns : goal.returns
+returns c = first_valid
