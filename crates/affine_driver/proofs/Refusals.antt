@@ -2,12 +2,21 @@
 use Rattle.std.proofs.Common.{◌≡◌, ℕ, List, Some, None, refl, inl, inr}
 use Rattle.affine_ast.specs.declared.module.Module.{Module}
 use Rattle.affine_ast.specs.Validity.{IsValid}
+use Rattle.affine_ast.specs.PlainLimits.{plain_fault}
+use Rattle.copy_emit.specs.Template.{FirstLoop}
+use Rattle.first_path.specs.Form.{IsOfFirstForm}
+use Rattle.first_path.specs.Valid.{IsValidFirst}
+use Rattle.first_rules.specs.Laws.{FirstFormRules}
 use Rattle.affine_grammar.specs.Spelling.{Spells}
 use Rattle.affine_driver.specs.declared.command.Command.{Command}
 use Rattle.affine_driver.specs.declared.command.Command.TheVariants.{Check, Stage}
 use Rattle.affine_driver.specs.declared.ending.Ending.{Ending}
 use Rattle.affine_driver.specs.declared.ending.Ending.TheVariants.{Done, Words, ReadFault, TooLong, Text, Invalid, Unbuilt, WriteFault, Memory}
 use Rattle.affine_driver.specs.Reading.{Refuses, IsNotRead, IsNotStaged}
+
+-- a valid module that isn't of the first form with the rules of that form isn't of the first form
+pub not_of_form : FirstFormRules → (m : Module) → IsValid m → plain_fault m ≡ None → ((l : FirstLoop) → IsOfFirstForm m l → IsValidFirst m l → ⊥) → (l : FirstLoop) → IsOfFirstForm m l → ⊥
+not_of_form law m v p none l f = none l f (law m l f v p)
 
 -- what isn't read is refused under every command
 pub unread : (command : Command) (bytes : List ℕ) (ending : Ending) → IsNotRead bytes ending → Refuses command bytes ending

@@ -11,7 +11,6 @@ use Rattle.affine_ast.specs.Validity.{first_broken, IsValid}
 use Rattle.affine_ast.specs.PlainLimits.{plain_fault}
 use Rattle.copy_emit.specs.Template.{FirstLoop}
 use Rattle.first_path.specs.Form.{IsOfFirstForm}
-use Rattle.first_path.specs.Valid.{IsValidFirst}
 use Rattle.affine_driver.specs.Output.{IsStageOutput, IsOutput, Meets}
 
 -- an ending that says that the source was read to its end
@@ -55,7 +54,7 @@ pub record IsUnbuilt (command : Command) (bytes : List ℕ) : Type 0 where
   pub input : Module
   pub spelled : Spells bytes input
   pub valid : Meets Stage input
-  pub other : (l : FirstLoop) → IsOfFirstForm input l → IsValidFirst input l → ⊥
+  pub other : (l : FirstLoop) → IsOfFirstForm input l → ⊥
 
 -- The ending refuses these bytes under this command: they spell no module, and this is the first token that can't stand
 -- where it stands; or they spell one that breaks a rule, or one that isn't built; or memory ran out, of which nothing is
@@ -90,7 +89,7 @@ Stages input output = (plain_fault input ≡ None) × IsStageOutput input output
 -- `stage` refuses the module: it breaks V13, or it isn't of the first form
 abbrev pub IsNotStaged : Module → Ending → Type 0
 IsNotStaged input (Invalid line rule) = (plain_fault input ≡ Some line) × (rule ≡ 13)
-IsNotStaged input Unbuilt = (plain_fault input ≡ None) × ((l : FirstLoop) → IsOfFirstForm input l → IsValidFirst input l → ⊥)
+IsNotStaged input Unbuilt = (plain_fault input ≡ None) × ((l : FirstLoop) → IsOfFirstForm input l → ⊥)
 IsNotStaged input Memory = Unit {0}
 IsNotStaged input Done = ⊥
 IsNotStaged input Words = ⊥

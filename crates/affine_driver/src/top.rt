@@ -8,7 +8,7 @@ ghost use Rattle.affine_ast.specs.Validity.{IsValid};
 ghost use Rattle.affine_grammar.specs.Spelling.{Spells};
 ghost use Rattle.copy_emit.specs.Template.{FirstLoop};
 ghost use Rattle.first_path.specs.Form.{IsOfFirstForm};
-ghost use Rattle.first_path.specs.Valid.{IsValidFirst};
+ghost use Rattle.affine_ast.specs.PlainLimits.{plain_fault};
 ghost use Rattle.affine_driver.specs.Reading.{AnswersWords, ComesBeforeWriting, Refuses, IsNotRead, IsNotStaged, Stages};
 
 use crate::command::{Command, command_of};
@@ -20,6 +20,7 @@ use affine_print::print;
 use affine_text::{ParseFault, parse};
 use affine_verify::{VerifyFault, verify};
 use first_path::{Staged, stage_first};
+use first_rules::first_form_rules;
 use std::alloc::{AllocError, Global};
 
 /// The most bytes of a source.
@@ -37,10 +38,14 @@ fn output_of(alloc: Global, staged: &Staged) -> Result<Vec<u8>, AllocError>
 }
 
 /// Report and staged module, exactly where the valid module is of the first form.
+#[tactic(auto, using(crate::proofs::Refusals::not_of_form))]
 fn stage_output(alloc: Global, module: &Module) -> Result<Option<Vec<u8>>, AllocError>
+    requires valid { IsValid «module».now }
+    requires plain { plain_fault «module».now ≡ None }
     ensures output { IfOk result (λ found. IfSome found (λ output. IsStageOutput «module».now output.items)) }
-    ensures other { IfOk result (λ found. IfNone found ((l : FirstLoop) → IsOfFirstForm «module».now l → IsValidFirst «module».now l → ⊥)) }
+    ensures other { IfOk result (λ found. IfNone found ((l : FirstLoop) → IsOfFirstForm «module».now l → ⊥)) }
 {
+    first_form_rules();
     let Some(staged) = stage_first(alloc, module)? else {
         return Ok(None);
     };
