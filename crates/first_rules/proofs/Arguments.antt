@@ -89,6 +89,17 @@ arg_holds a n size h =
 
 -- ---- one argument more
 
+-- the types of the arguments before and of one vector more
+module _ (before : List Arg) (name : Name) (size line : ℕ) where
+  pub noted : (n : Name) → arg_types (before ++ record { name = name; kind = Memref (slow_type size); line = line } ∷ []) n ≡ put (arg_types before) name (Some (slow_type size)) n
+  noted n = ap (λ f. f n) (types_end before (record { name = name; kind = Memref (slow_type size); line = line }))
+
+  pub types_more : (s : Scope) → ((n : Name) → s n ≡ as_binding (arg_types before n)) → (n : Name)
+      → put s name (Some (MemrefArgument (slow_type size))) n ≡ as_binding (arg_types (before ++ record { name = name; kind = Memref (slow_type size); line = line } ∷ []) n)
+  types_more s types n = cases (same_name name n)
+      (λ t. put-same s name _ n t ∙ sym (ap as_binding (noted n ∙ put-same (arg_types before) name (Some (slow_type size)) n t)))
+      (λ t. put-other s name _ n t ∙ types n ∙ sym (ap as_binding (noted n ∙ put-other (arg_types before) name (Some (slow_type size)) n t)))
+
 module _ (before : List Arg) (a : Around) (k : Behind before a) (name : Name) (size line : ℕ) (holds : ArgHolds a name size) where
   abbrev vector : Arg
   vector = record { name = name; kind = Memref (slow_type size); line = line }
@@ -99,21 +110,13 @@ module _ (before : List Arg) (a : Around) (k : Behind before a) (name : Name) (s
   abbrev around : Around
   around = behind_argument name (Memref (slow_type size)) a
 
-  noted : (n : Name) → arg_types more n ≡ put (arg_types before) name (Some (slow_type size)) n
-  noted n = ap (λ f. f n) (types_end before vector)
-
-  types_more : (n : Name) → around.scope n ≡ as_binding (arg_types more n)
-  types_more n = cases (same_name name n)
-      (λ t. put-same a.scope name _ n t ∙ sym (ap as_binding (noted n ∙ put-same (arg_types before) name (Some (slow_type size)) n t)))
-      (λ t. put-other a.scope name _ n t ∙ k.types n ∙ sym (ap as_binding (noted n ∙ put-other (arg_types before) name (Some (slow_type size)) n t)))
-
   one_type : (t u : MemrefType) → Some t ≡ Some u → t ≡ u
   one_type t u h = cc
 
   vectors_more : (n : Name) (ty : MemrefType) → arg_types more n ≡ Some ty → (size : ℕ) × (ty ≡ slow_type size)
   vectors_more n ty e = cases (same_name name n)
-      (λ t. (size, one_type ty (slow_type size) (sym e ∙ noted n ∙ put-same (arg_types before) name (Some (slow_type size)) n t)))
-      (λ t. k.vectors n ty (sym (noted n ∙ put-other (arg_types before) name (Some (slow_type size)) n t) ∙ e))
+      (λ t. (size, one_type ty (slow_type size) (sym e ∙ noted before name size line n ∙ put-same (arg_types before) name (Some (slow_type size)) n t)))
+      (λ t. k.vectors n ty (sym (noted before name size line n ∙ put-other (arg_types before) name (Some (slow_type size)) n t) ∙ e))
 
   known_more : (n : Name) → Have more n → is_in around.scope n ≡ true
   known_more n h = by (any_end before vector (λ (x : Arg). x.name ≡ n) h)
@@ -143,7 +146,7 @@ module _ (before : List Arg) (a : Around) (k : Behind before a) (name : Name) (s
   }
 
   vector_behind : Behind more around
-  vector_behind = record { types = types_more; vectors = vectors_more; known = known_more; count = count_more; valid = valid_more }
+  vector_behind = record { types = types_more before name size line a.scope k.types; vectors = vectors_more; known = known_more; count = count_more; valid = valid_more }
 
 argument_behind : (before : List Arg) (a : Around) (x : Arg) → Behind before a → IsFirstArg plain_name x → rule_of_argument a x.name x.kind ≡ None → Behind (before ++ x ∷ []) (behind_argument x.name x.kind a)
 argument_behind before a x k f h =

@@ -1,6 +1,6 @@
 -- What meets all rules breaks none.
 use Rattle.std.proofs.Common.{◌≡◌, ℕ, ℤ, Bool, true, ap, ◌∙◌}
-use Rattle.std.specs.Prelude.{Option, Some, None}
+use Rattle.std.specs.Prelude.{Option, None}
 use Rattle.affine_ast.specs.declared.name.Name.{Name}
 use Rattle.affine_ast.specs.declared.types.Bound.{Bound}
 use Rattle.affine_ast.specs.Nest.{Plain, Nest}

@@ -1,6 +1,6 @@
 -- Lists with one element more at the end.
 use Rattle.std.proofs.Common.{◌≡◌, ℕ, ◌<◌, ◌⊎◌, inl, inr, Bool, true, false, List, [], ◌∷◌, ◌++◌, length, get_or, take, refl, sym, ◌∙◌, subst, arith}
-use Rattle.std.specs.Prelude.{Any, nat_lt}
+use Rattle.std.specs.Prelude.{Any, All, nat_lt}
 use Rattle.std.proofs.lemmas.Bool.{ltb-true}
 use Rattle.std.proofs.lemmas.List.{length-append, take-append-le, get_or_append_left}
 use Rattle.std.proofs.Math.Seq.{take-append_seam, get_or-append_seam}
@@ -50,3 +50,13 @@ module _ {X : Type 0} (xs : List X) (x : X) where
 
 pub each_nil : {X : Type 0} (P : List X → X → Type 0) → EachBehind P []
 each_nil P = λ k d less. absurd (omega (arith, less))
+
+-- what holds of an element in the middle
+pub each_at : {X : Type 0} (P : List X → X → Type 0) (xs : List X) (x : X) (ys : List X) → EachBehind P (xs ++ x ∷ ys) → P xs x
+each_at P xs x ys h =
+    let n = length-append xs (x ∷ ys) in
+    subst (P xs) (get_or-append_seam xs x ys x)
+    (subst (λ zs. P zs (get_or (xs ++ x ∷ ys) (length xs) x)) (take-append_seam xs (x ∷ ys)) (h (length xs) x (omega (arith, n))))
+
+pub all_at : {X : Type 0} (P : X → Type 0) (xs : List X) (x : X) (ys : List X) → All P (xs ++ x ∷ ys) → P x
+all_at P xs x ys h = let n = length-append xs (x ∷ ys) in subst P (get_or-append_seam xs x ys x) (h (length xs) x (omega (arith, n)))

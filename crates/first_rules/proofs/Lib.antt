@@ -5,4 +5,6 @@ pub mod Counts
 pub mod Modules
 pub mod Subscripts
 pub mod Demands
-pub mod Backwards
+pub mod ValidStatements
+pub mod ValidArguments
+pub mod ValidModules

@@ -1,18 +1,16 @@
 -- The subscript that is the loop's variable alone meets the rules.
-use Rattle.std.proofs.Common.{◌≡◌, ℕ, ◌≤◌, ℤ, pos, Bool, true, false, List, [], ◌∷◌, length, map, take, drop, refl, sym, ap, ◌∙◌, arith}
-use Rattle.std.specs.Prelude.{◌&&◌, ◌||◌, not, Option, Some, None, is_some, nat_eq, nat_le, if◌then◌else◌}
-use Rattle.std.specs.Cmp.Lexicographic.{pointwise}
-use Rattle.affine_expr.specs.declared.expr.Expr.{Expr, Dim, fold-Expr, fold-roll-Expr}
+use Rattle.std.proofs.Common.{◌≡◌, ℕ, Bool, true, false, [], ◌∷◌, refl, sym, ap, ◌∙◌, arith}
+use Rattle.std.specs.Prelude.{◌&&◌, ◌||◌, Option, Some, None, is_some, nat_eq, nat_le, if◌then◌else◌}
+use Rattle.affine_expr.specs.declared.expr.Expr.{Dim, fold-Expr, fold-roll-Expr}
 use Rattle.affine_expr.specs.declared.expr.Expr.TheOpen.{Expr-F}
 use Rattle.affine_expr.specs.declared.expr.Expr.TheVariants.{rolls-Dim}
 use Rattle.affine_expr.specs.Bounded.{bounded, bounded_step, limited}
 use Rattle.affine_expr.specs.Pure.{is_outside, is_pure, Purity, purity_step, has_leaves_below, leaves_step}
 use Rattle.affine_expr.specs.Spread.{Range, Spread}
 use Rattle.affine_ast.specs.declared.name.Name.{Name}
-use Rattle.affine_ast.specs.declared.types.MemrefType.{MemrefType}
 use Rattle.affine_ast.specs.PlainLimits.{operand_count, operands_step, depths, Depths, depths_step, is_short, access_short}
-use Rattle.affine_ast.specs.Rules.{is_in, are_in, operands_stand, is_dimension, is_symbol, may_be_dimension, map_fits, subscripts_fit, access_pure, access_bounded, binding_is_small, is_small_dimension, has_interval, same_type}
-use Rattle.affine_ast.specs.Scope.{Binding, Variable, Scope, ranges_in, range_of_binding}
+use Rattle.affine_ast.specs.Rules.{is_in, are_in, operands_stand, is_dimension, may_be_dimension, map_fits, subscripts_fit, access_pure, access_bounded, binding_is_small, is_small_dimension, has_interval, same_type}
+use Rattle.affine_ast.specs.Scope.{Variable, Scope, ranges_in, range_of_binding}
 use Rattle.copy_emit.specs.Template.{at_value, slow_type}
 
 pub both : (a b : Bool) → a ≡ true → b ≡ true → (a && b) ≡ true

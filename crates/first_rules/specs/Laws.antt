@@ -10,3 +10,7 @@ use Rattle.first_path.specs.Valid.{IsValidFirst}
 -- where no rule is broken, none of the first form's is
 abbrev pub FirstFormRules : Type 0
 FirstFormRules = (m : Module) (l : FirstLoop) → IsOfFirstForm m l → IsValid m → plain_fault m ≡ None → IsValidFirst m l
+
+-- where none of the first form's rules is broken, no rule is
+abbrev pub FirstFormIsValid : Type 0
+FirstFormIsValid = (m : Module) (l : FirstLoop) → IsOfFirstForm m l → IsValidFirst m l → IsValid m × (plain_fault m ≡ None)

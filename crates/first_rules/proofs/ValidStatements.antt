@@ -1,6 +1,6 @@
 -- The statements of a loop that meets the first form's rules break no rule.
-use Rattle.std.proofs.Common.{◌≡◌, ◌⊎◌, inl, inr, ℕ, suc, ◌+◌, ◌<◌, ◌≤◌, ℤ, pos, negsuc, neg_ℤ, ◌^◌, ◌≤ℤ◌, ◌<ℤ◌, Bool, true, false, List, [], ◌∷◌, ◌++◌, length, refl, sym, ap, ◌∙◌, subst, arith}
-use Rattle.std.specs.Prelude.{◌&&◌, not, Option, Some, None, is_some, All, int_le, int_lt, nat_eq, nat_le}
+use Rattle.std.proofs.Common.{◌≡◌, ◌⊎◌, inl, inr, ℕ, suc, ◌+◌, ◌≤◌, ℤ, pos, neg_ℤ, ◌^◌, Bool, true, false, List, [], ◌∷◌, ◌++◌, length, refl, sym, ap, ◌∙◌, subst, arith}
+use Rattle.std.specs.Prelude.{◌&&◌, not, Option, Some, None, is_some, All, int_le, int_lt, nat_le, if◌then◌else◌}
 use Rattle.std.proofs.lemmas.Bool.{le-leb}
 use Rattle.std.proofs.lemmas.Int.{ints}
 use Rattle.std.proofs.lemmas.List.{append_assoc, append-nil, length-append}
@@ -21,15 +21,18 @@ use Rattle.affine_ast.specs.Names.{same_name, put}
 use Rattle.affine_ast.proofs.Names.{put-same, put-other, same_name-eq, same_name-is}
 use Rattle.affine_ast.specs.Nest.{Plain, Nest, Load, Store, Constant, Binary, Does, put_what, nest}
 use Rattle.affine_ast.proofs.Nests.{nest-nil, nest-cons, put-Load, put-Store, put-Constant, put-Binary}
-use Rattle.affine_ast.specs.PlainLimits.{plain_stands}
+use Rattle.affine_ast.specs.PlainLimits.{PlainTold, FaultAt, Counted, plain_stands, plain_told, plain_judged}
 use Rattle.affine_ast.specs.Rules.{is_in, are_in, is_new, is_value, is_memref, operands_stand, is_memref_of, is_of, binding_is_memref_of, binding_is_scalar, in_signed_range, is_loadable, is_live, text_within}
 use Rattle.affine_ast.specs.Scope.{Binding, Variable, Data, MemrefArgument, Scope, Totals, Around, counted, behind_plain, with_name}
+use Rattle.affine_ast.specs.Validity.{Passed, told, judged}
+use Rattle.copy_emit.proofs.Every.{all_head, all_tail}
+use Rattle.first_rules.proofs.Demands.{plain_met}
 use Rattle.copy_emit.specs.Template.{slow_type, at_value}
 use Rattle.copy_emit.specs.FirstForm.{arg_types}
 use Rattle.first_path.specs.Form.{HasFirstForm}
-use Rattle.first_path.specs.Valid.{EachBehind, result_of, Define, Have, IsInI32, IsNew, IsTyped, IsValidWhat}
+use Rattle.first_path.specs.Valid.{EachBehind, result_of, Define, IsInI32, IsNew, IsValidWhat}
 use Rattle.valid_laws.proofs.Passing.{Holds}
-use Rattle.first_rules.proofs.Ends.{any_end, any_before, any_last}
+use Rattle.first_rules.proofs.Ends.{any_end, any_before, any_last, each_at}
 use Rattle.first_rules.proofs.Arguments.{cases}
 use Rattle.first_rules.proofs.Subscripts.{both, variable_in, value_stands, value_bounded, value_pure, value_fits, value_short, type_same}
 
@@ -40,10 +43,15 @@ none_there : (b : Binding) (o : Option Binding) → o ≡ None → o ≡ Some b 
 none_there b o p q = let e : None ≡ Some b = sym p ∙ q in cc
 
 -- what is in scope stays in scope behind a new name
-kept : (s : Scope) (r n : Name) (b c : Binding) → s r ≡ None → s n ≡ Some b → put s r (Some c) n ≡ Some b
+pub kept : (s : Scope) (r n : Name) (b c : Binding) → s r ≡ None → s n ≡ Some b → put s r (Some c) n ≡ Some b
 kept s r n b c p q = cases (same_name r n)
     (λ t. absurd (none_there b (s r) p (ap s (same_name-eq r n t) ∙ q)))
     (λ t. put-other s r (Some c) n t ∙ q)
+
+-- a statement within the plain limits
+pub plain_passes : (line loops count : ℕ) (holds : Bool) (more : PlainTold) → holds ≡ true → count ≤ 4096 → loops ≤ 8 → plain_judged line loops count holds more ≡ more
+plain_passes line loops count holds more h c l =
+    ap (λ (b : Bool). if b then more else FaultAt line) (both holds (nat_le count 4096 && nat_le loops 8) h (both (nat_le count 4096) (nat_le loops 8) (le-leb count 4096 c) (le-leb loops 8 l)))
 
 i32_of_range : (z : ℤ) → IsInI32 z → in_signed_range 32 z ≡ true
 unfolding in_signed_range
@@ -277,3 +285,49 @@ module _ (args : List Arg) (var : Name) (r : Range) (low_in : is_outside r.least
   keeps line (what.Constant res z ty) f = constant_kept line res z ty f.1
   keeps line (what.Binary res op x y ty) f = binary_kept line res op x y ty f.4
   keeps line w f = absurd f
+
+  -- ---- all statements
+
+  abbrev pub AllValid : List Stmt → Type 0
+  AllValid = EachBehind (λ (before : List Stmt) (s : Stmt). IsValidWhat args var before s.what)
+
+  -- the statements break no rule, and all are counted
+  pub record Passing (ss all : List Stmt) (a : Around) : Type 0 where
+    pub totals : Totals
+    pub passed : told (nest ss) a ≡ Passed totals
+    pub count : totals.statements ≡ suc (length all)
+
+  pub statements_pass : (ss before all : List Stmt) (a : Around) → all ≡ before ++ ss → Inside before a → length all + 2 ≤ 4096 → AllValid all → All (λ (s : Stmt). HasFirstForm var s.what) ss → Passing ss all a
+  unfolding told
+  statements_pass [] before all a e k room v f = record {
+    totals = a.totals;
+    passed = ap (λ n. told n a) nest-nil;
+    count = k.statements ∙ ap (λ (l : List Stmt). suc (length l)) (sym (append-nil before) ∙ sym e);
+  }
+  statements_pass (x ∷ ss) before all a e k room v f =
+      let s = keeps x.line x.what (all_head (λ (s : Stmt). HasFirstForm var s.what) x ss f) in
+      let n = length-append before (x ∷ ss) in
+      let l = ap (λ (l : List Stmt). length l) e in
+      let valid = each_at (λ (before : List Stmt) (s : Stmt). IsValidWhat args var before s.what) before x ss (subst AllValid e v) in
+      let text = text_met before a k (omega (arith, n, l, room)) in
+      let none = plain_met (counted a) s.plain (nest ss) (s.holds before a (nest ss) k text valid) in
+      let rest = statements_pass ss (before ++ x ∷ []) all (behind_plain s.plain (counted a)) (e ∙ sym (append_assoc before (x ∷ []) ss)) (s.inside before a k valid) room v (all_tail (λ (s : Stmt). HasFirstForm var s.what) x ss f) in
+      record {
+        totals = rest.totals;
+        passed =
+            ap (λ n. told n a) (nest-cons x ss ∙ s.is (nest ss))
+            ∙ ap (λ (o : Option ℕ). judged x.line o (told (nest ss) (behind_plain s.plain (counted a)))) none
+            ∙ rest.passed;
+        count = rest.count;
+      }
+
+  -- the plain limits, with so many statements before
+  pub statements_plain : (ss : List Stmt) (count : ℕ) → All (λ (s : Stmt). HasFirstForm var s.what) ss → count + length ss ≤ 4096 → plain_told (nest ss) 1 count ≡ Counted (count + length ss)
+  unfolding plain_told
+  statements_plain [] count f room = ap (λ n. plain_told n 1 count) nest-nil ∙ ap Counted (let e : count ≡ count + length {A = Stmt} [] = omega arith in e)
+  statements_plain (x ∷ ss) count f room =
+      let s = keeps x.line x.what (all_head (λ (s : Stmt). HasFirstForm var s.what) x ss f) in
+      ap (λ n. plain_told n 1 count) (nest-cons x ss ∙ s.is (nest ss))
+      ∙ plain_passes x.line 1 (suc count) (plain_stands s.plain) (plain_told (nest ss) 1 (suc count)) s.short (omega (arith, room)) (omega arith)
+      ∙ statements_plain ss (suc count) (all_tail (λ (s : Stmt). HasFirstForm var s.what) x ss f) (omega (arith, room))
+      ∙ ap Counted (let e : suc count + length ss ≡ count + suc (length ss) = omega arith in e)
