@@ -13,7 +13,7 @@ pub fn staging_agrees()
     ensures { StagingAgrees }
 {}
 
-/// The same for the plan of the first form, which stages each memref of the loop in the order of first accesses, and for
+/// The same for the plan of the first form, which stages the window of each memref of the loop in the order of first accesses, and none where the loop has no turn, and for
 /// its numbered names.
 pub fn first_plan_agrees()
     ensures { FirstPlanAgrees }
