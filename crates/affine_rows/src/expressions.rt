@@ -1,5 +1,5 @@
 // Values, intervals and linear forms of affine expressions.
-ghost use Rattle.std.specs.Prelude.{◌≡◌, IfOk, pos, negsuc, ◌∷◌, []};
+ghost use Rattle.std.specs.Prelude.{◌≡◌, IfOk, pos};
 ghost use Rattle.affine_expr.specs.declared.expr.Expr.TheVariants as e;
 
 use affine_expr::{Expr, Interval, LinearFault};
@@ -29,25 +29,6 @@ fn thirds(alloc: Global) -> Result<Expr, AllocError>
         Boxed::new(alloc, Expr::Dim(0))?,
         Boxed::new(alloc, Expr::Const(3))?,
     ))
-}
-
-/// `-7 floordiv 4`, `-7 ceildiv 4` and `-7 mod 4`
-fn quotients_of_minus_seven(alloc: Global) -> Result<[Expr; 3], AllocError>
-    ensures { IfOk result (λ x. x ≡ e.FloorDiv (e.Const (negsuc 6)) (e.Const (pos 4)) ∷ e.CeilDiv (e.Const (negsuc 6)) (e.Const (pos 4)) ∷ e.Mod (e.Const (negsuc 6)) (e.Const (pos 4)) ∷ []) }
-{
-    let down = Expr::FloorDiv(
-        Boxed::new(alloc, Expr::Const(-7))?,
-        Boxed::new(alloc, Expr::Const(4))?,
-    );
-    let up = Expr::CeilDiv(
-        Boxed::new(alloc, Expr::Const(-7))?,
-        Boxed::new(alloc, Expr::Const(4))?,
-    );
-    let rest = Expr::Mod(
-        Boxed::new(alloc, Expr::Const(-7))?,
-        Boxed::new(alloc, Expr::Const(4))?,
-    );
-    Ok([down, up, rest])
 }
 
 /// `((d0 * 4611686018427387904) * 4611686018427387904) * 8`
@@ -130,28 +111,5 @@ fn linear_forms_of_expressions(rt: HostRuntime) -> Result<(), Fail> {
     );
     let wide = past_128_bits(alloc)?;
     assert!(rt; matches!(wide.linear(alloc, 1, 0), Err(LinearFault::Wide)));
-    Ok(())
-}
-
-#[test]
-#[tactic(auto, using(crate::proofs::Reach::remainder_at, crate::proofs::Reach::thirds_at))]
-fn values_of_expressions(rt: HostRuntime) -> Result<(), Fail> {
-    let remainder = less_seven_mod_four(rt.alloc())?;
-    assert_eq!(rt; remainder.eval(&[0], &[]), 1);
-    assert_eq!(rt; remainder.eval(&[7], &[]), 0);
-    assert_eq!(rt; remainder.eval(&[10], &[]), 3);
-    let quotient = thirds(rt.alloc())?;
-    assert_eq!(rt; quotient.eval(&[-4], &[]), -1);
-    assert_eq!(rt; quotient.eval(&[4], &[]), 2);
-    Ok(())
-}
-
-#[test]
-#[tactic(auto, using(crate::proofs::Reach::quotients))]
-fn quotients_of_negatives(rt: HostRuntime) -> Result<(), Fail> {
-    let [down, up, rest] = quotients_of_minus_seven(rt.alloc())?;
-    assert_eq!(rt; down.eval(&[], &[]), -2);
-    assert_eq!(rt; up.eval(&[], &[]), -1);
-    assert_eq!(rt; rest.eval(&[], &[]), 1);
     Ok(())
 }
