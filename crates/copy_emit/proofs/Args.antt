@@ -10,9 +10,9 @@ use Rattle.affine_ast.specs.declared.module.ArgKind.TheVariants.{Memref, Index}
 use Rattle.affine_ast.specs.declared.types.MemrefType.{MemrefType}
 use Rattle.affine_ast.specs.Names.{same_name, put}
 use Rattle.affine_ast.proofs.Names.{same_name-eq, put-same, put-other}
-use Rattle.nest_meaning.specs.Action.{Home, SlowMemref}
-use Rattle.nest_meaning.specs.Static.{product}
-use Rattle.nest_meaning.specs.Memory.{slow_list, FitsArg, FitsArgs, Placed, place_kind, place_arg, empty_env, start_env}
+use Rattle.direct_meaning.specs.Action.{Home, SlowMemref}
+use Rattle.direct_meaning.specs.Static.{product}
+use Rattle.direct_meaning.specs.Memory.{slow_list, FitsArg, FitsArgs, Placed, place_kind, place_arg, empty_env, start_env}
 use Rattle.copy_emit.specs.FirstForm.{note_type, arg_types}
 
 -- a memref's run of slow places

@@ -9,7 +9,7 @@ use Rattle.affine_ast.specs.declared.types.Element.TheVariants.{I32}
 use Rattle.affine_ast.specs.Names.{same_name}
 use Rattle.affine_ast.proofs.Names.{same_name-eq}
 use Rattle.int_ops.specs.Wrapped.{wrapped}
-use Rattle.nest_meaning.specs.Direct.{State}
+use Rattle.direct_meaning.specs.Direct.{State}
 use Rattle.prompt_meaning.specs.Device.{Device, fresh_half, allocated, released}
 use Rattle.prompt_meaning.proofs.Laws.{halves_same, halves_other}
 use Rattle.copy_emit.proofs.Moved.{Cell, Layout, Sound, Lives}

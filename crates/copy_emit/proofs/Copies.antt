@@ -9,10 +9,10 @@ use Rattle.affine_ast.specs.declared.name.Name.{Name}
 use Rattle.affine_ast.specs.Names.{same_name, put}
 use Rattle.affine_ast.proofs.Names.{same_name-refl, put-same, put-other}
 use Rattle.bus_model.specs.declared.step.FaultKind.TheVariants.{Touched, Race}
-use Rattle.nest_meaning.specs.Turns.{turns}
-use Rattle.nest_meaning.specs.Action.{Slow, Fast, Register, Action, Loads, Stores}
-use Rattle.nest_meaning.specs.Direct.{Outcome, End, then_do, folded, keep, write, read}
-use Rattle.nest_meaning.proofs.Laws.{turns_more, turns_end}
+use Rattle.direct_meaning.specs.Turns.{turns}
+use Rattle.direct_meaning.specs.Action.{Slow, Fast, Register, Action, Loads, Stores}
+use Rattle.direct_meaning.specs.Direct.{Outcome, End, then_do, folded, keep, write, read}
+use Rattle.direct_meaning.proofs.Laws.{turns_more, turns_end}
 use Rattle.prompt_meaning.specs.Device.{Device, put_half, is_away, load_races, store_races}
 use Rattle.prompt_meaning.proofs.Laws.{half_same, half_other}
 use Rattle.prompt_meaning.specs.Prompt.{refused, acts, prompt_step}

@@ -15,10 +15,10 @@ use Rattle.affine_ast.specs.Names.{same_name}
 use Rattle.affine_ast.specs.Nest.{Nest, Nothing, Loop, Does, Load, Store, Alloc, Dealloc, nest}
 use Rattle.affine_ast.proofs.Names.{same_name-refl, put-same, put-other}
 use Rattle.affine_ast.proofs.Nests.{nest-nil, nest-cons, put-For, put-Load, put-Store, put-Alloc, put-Dealloc}
-use Rattle.nest_meaning.specs.Action.{SlowMemref, FastMemref, Slow, Fast, Register, Action, Loads, Stores, Releases}
-use Rattle.nest_meaning.specs.Static.{Env, knows, forgets, number, operand_of, results_of, slow_at, fast_at, place_at, place_of, lower_of, upper_of}
-use Rattle.nest_meaning.specs.Actions.{action_of, after_plain, behind, actions, after, dealloc_of}
-use Rattle.nest_meaning.proofs.Laws.{actions-Loop}
+use Rattle.direct_meaning.specs.Action.{SlowMemref, FastMemref, Slow, Fast, Register, Action, Loads, Stores, Releases}
+use Rattle.direct_meaning.specs.Static.{Env, knows, forgets, number, operand_of, results_of, slow_at, fast_at, place_at, place_of, lower_of, upper_of}
+use Rattle.direct_meaning.specs.Actions.{action_of, after_plain, behind, actions, after, dealloc_of}
+use Rattle.direct_meaning.proofs.Laws.{actions-Loop}
 use Rattle.copy_emit.specs.Template.{Staged, made, slow_type, fast_type, window_type, at_value, behind_place, in_half, copy_in, copy_out, before}
 use Rattle.copy_emit.specs.Template as template
 use Rattle.copy_emit.proofs.Copies.{pairs, pairs_of}

@@ -11,7 +11,7 @@ use Rattle.affine_ast.specs.declared.stmt.Stmt.{Stmt}
 use Rattle.affine_ast.specs.declared.stmt.What as what
 use Rattle.affine_ast.specs.declared.stmt.What.{What}
 use Rattle.affine_ast.specs.Names.{same_name}
-use Rattle.nest_meaning.specs.Turns.{gap}
+use Rattle.direct_meaning.specs.Turns.{gap}
 use Rattle.affine_ast.proofs.Names.{same_name-eq, same_name-is}
 use Rattle.copy_emit.specs.Template.{Staged, FirstLoop}
 use Rattle.copy_emit.specs.FirstForm.{arg_types, IsFirstForm, IsWindow, HasMadeNames, IsStagedArg, WritesOut, IsPlan}

@@ -9,7 +9,7 @@ use Rattle.affine_ast.specs.declared.module.ArgKind.TheVariants.{Memref, Index}
 use Rattle.affine_ast.specs.declared.types.MemrefType.{MemrefType}
 use Rattle.affine_ast.specs.Names.{same_name, put}
 use Rattle.affine_ast.proofs.Names.{same_name-eq, put-same, put-other}
-use Rattle.nest_meaning.specs.Static.{product}
+use Rattle.direct_meaning.specs.Static.{product}
 use Rattle.copy_emit.specs.Template.{slow_type}
 use Rattle.copy_emit.specs.FirstForm.{note_type, arg_types}
 use Rattle.copy_emit.specs.FirstPlan.{Planned, arg_elements}

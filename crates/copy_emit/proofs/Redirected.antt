@@ -20,10 +20,10 @@ use Rattle.affine_ast.specs.Nest.{Plain, Nest, Does, Load, Store, Constant, Bina
 use Rattle.affine_ast.proofs.Names.{put-both, put-other}
 use Rattle.affine_ast.proofs.Nests.{nest-nil, nest-cons, put-Load, put-Store, put-Constant, put-Binary}
 use Rattle.int_ops.specs.declared.operation.Op.{Op}
-use Rattle.nest_meaning.specs.Action.{Home, SlowMemref, FastMemref, Place, Loads, Stores, Operates}
-use Rattle.nest_meaning.specs.Static.{Env, forgets, number, operand_of, operand, numbers, results_of, product, within, row_major, cell_in, slow_at, fast_at, half_place, place_at, place_of, scalar_bits}
-use Rattle.nest_meaning.specs.Actions.{action_of, after_plain, actions}
-use Rattle.nest_meaning.proofs.Laws.{actions-Nothing, actions-Does}
+use Rattle.direct_meaning.specs.Action.{Home, SlowMemref, FastMemref, Place, Loads, Stores, Operates}
+use Rattle.direct_meaning.specs.Static.{Env, forgets, number, operand_of, operand, numbers, results_of, product, within, row_major, cell_in, slow_at, fast_at, half_place, place_at, place_of, scalar_bits}
+use Rattle.direct_meaning.specs.Actions.{action_of, after_plain, actions}
+use Rattle.direct_meaning.proofs.Laws.{actions-Nothing, actions-Does}
 use Rattle.copy_emit.specs.Template.{Staged, FirstLoop, window_type, plus, less, at_value, in_half, staged_of, redirect_load, redirect_store, redirect, redirect_stmt}
 use Rattle.copy_emit.specs.FirstForm.{IsWindow, IsFirstAccess, IsFirstWhat, IsFirstStmt, WritesOut}
 use Rattle.copy_emit.proofs.Every.{all_head, all_tail}

@@ -14,13 +14,13 @@ use Rattle.affine_ast.specs.Names.{same_name, put}
 use Rattle.affine_ast.specs.Nest.{Plain, Loop, Alloc, nest}
 use Rattle.affine_ast.proofs.Names.{same_name-eq, same_name-refl, same_name-is, put-same, put-other, put-both}
 use Rattle.affine_ast.proofs.Nests.{nest-nil, nest-cons, nest-append, put-For}
-use Rattle.nest_meaning.specs.Turns.{turns}
-use Rattle.nest_meaning.specs.Action.{SlowMemref, FastMemref, Action, Allocates, Releases}
-use Rattle.nest_meaning.specs.Static.{Env, knows, product, lower_of, upper_of}
-use Rattle.nest_meaning.specs.Actions.{action_of, after_plain, behind, actions, after}
-use Rattle.nest_meaning.specs.Direct.{Outcome, End, Fault, then_do, folded, State, direct_step}
-use Rattle.nest_meaning.proofs.WorkLaws.{Every, Between, all_between}
-use Rattle.nest_meaning.proofs.Laws.{folded-cons, folded-append, actions-Nothing, actions-Does, actions-Loop, actions-followed, after-followed}
+use Rattle.direct_meaning.specs.Turns.{turns}
+use Rattle.direct_meaning.specs.Action.{SlowMemref, FastMemref, Action, Allocates, Releases}
+use Rattle.direct_meaning.specs.Static.{Env, knows, product, lower_of, upper_of}
+use Rattle.direct_meaning.specs.Actions.{action_of, after_plain, behind, actions, after}
+use Rattle.direct_meaning.specs.Direct.{Outcome, End, Fault, then_do, folded, State, direct_step}
+use Rattle.direct_meaning.proofs.WorkLaws.{Every, Between, all_between}
+use Rattle.direct_meaning.proofs.Laws.{folded-cons, folded-append, actions-Nothing, actions-Does, actions-Loop, actions-followed, after-followed}
 use Rattle.prompt_meaning.specs.Device.{Device, allocated, released, has_away}
 use Rattle.prompt_meaning.specs.Prompt.{refused, acts, prompt_step}
 use Rattle.bus_model.specs.declared.step.FaultKind.TheVariants.{Touched}

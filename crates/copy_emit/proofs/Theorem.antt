@@ -11,13 +11,13 @@ use Rattle.affine_ast.specs.Names.{same_name}
 use Rattle.affine_ast.specs.Nest.{Nothing, Does, Return, nest}
 use Rattle.affine_ast.proofs.Names.{same_name-refl}
 use Rattle.affine_ast.proofs.Nests.{nest-nil, nest-cons, nest-append, put-For, put-Return}
-use Rattle.nest_meaning.specs.Turns.{turns}
-use Rattle.nest_meaning.specs.Action.{Home, Returns}
-use Rattle.nest_meaning.specs.Static.{Env, knows, lower_of, upper_of}
-use Rattle.nest_meaning.specs.Actions.{action_of, after_plain, behind, actions, after}
-use Rattle.nest_meaning.specs.Memory.{slow_list, start_env, module_actions}
-use Rattle.nest_meaning.specs.Direct.{Outcome, End, Fault, then_do, folded, State, direct_step, first_state, plain}
-use Rattle.nest_meaning.proofs.Laws.{folded-append, actions-Nothing, actions-Does, actions-Loop, actions-followed}
+use Rattle.direct_meaning.specs.Turns.{turns}
+use Rattle.direct_meaning.specs.Action.{Home, Returns}
+use Rattle.direct_meaning.specs.Static.{Env, knows, lower_of, upper_of}
+use Rattle.direct_meaning.specs.Actions.{action_of, after_plain, behind, actions, after}
+use Rattle.direct_meaning.specs.Memory.{slow_list, start_env, module_actions}
+use Rattle.direct_meaning.specs.Direct.{Outcome, End, Fault, then_do, folded, State, direct_step, first_state, plain}
+use Rattle.direct_meaning.proofs.Laws.{folded-append, actions-Nothing, actions-Does, actions-Loop, actions-followed}
 use Rattle.prompt_meaning.specs.Device.{Device}
 use Rattle.prompt_meaning.specs.Prompt.{acts, prompt_step, first_device, prompt}
 use Rattle.copy_emit.specs.Template.{Staged, FirstLoop, input_body, staged_body, staged_of, before, redirect_stmt}

@@ -10,10 +10,10 @@ use Rattle.affine_ast.specs.declared.module.Module.{Module}
 use Rattle.affine_ast.specs.declared.stmt.Stmt.{Stmt}
 use Rattle.affine_ast.specs.declared.stmt.What.{What, Load, Store}
 use Rattle.affine_ast.specs.Names.{same_name}
-use Rattle.nest_meaning.specs.Turns.{gap}
-use Rattle.nest_meaning.specs.Static.{product}
-use Rattle.nest_meaning.specs.Memory.{Fits}
-use Rattle.nest_meaning.specs.Direct.{plain}
+use Rattle.direct_meaning.specs.Turns.{gap}
+use Rattle.direct_meaning.specs.Static.{product}
+use Rattle.direct_meaning.specs.Memory.{Fits}
+use Rattle.direct_meaning.specs.Direct.{plain}
 use Rattle.prompt_meaning.specs.Prompt.{prompt}
 use Rattle.copy_emit.specs.Template.{Staged, FirstLoop}
 use Rattle.copy_emit.specs.FirstForm.{IsFirstForm}

@@ -3,8 +3,8 @@ use Rattle.std.specs.Prelude.{◌≡◌, ℤ, Bool, List}
 use Rattle.affine_ast.specs.declared.name.Name.{Name}
 use Rattle.affine_ast.specs.declared.image.Image.{Image}
 use Rattle.affine_ast.specs.declared.module.Module.{Module}
-use Rattle.nest_meaning.specs.Memory.{Fits}
-use Rattle.nest_meaning.specs.Direct.{Outcome, End, Fault, State, plain}
+use Rattle.direct_meaning.specs.Memory.{Fits}
+use Rattle.direct_meaning.specs.Direct.{Outcome, End, Fault, State, plain}
 use Rattle.prompt_meaning.specs.Device.{Device}
 use Rattle.prompt_meaning.specs.Prompt.{prompt}
 use Rattle.copy_emit.specs.Template.{Staged, FirstLoop, staged_body}

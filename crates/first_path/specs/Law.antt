@@ -2,8 +2,8 @@
 use Rattle.std.specs.Prelude.{◌≡◌, ℤ, true, map}
 use Rattle.affine_ast.specs.declared.image.Image.{Image}
 use Rattle.affine_ast.specs.declared.module.Module.{Module}
-use Rattle.nest_meaning.specs.Memory.{Fits}
-use Rattle.nest_meaning.specs.Direct.{plain}
+use Rattle.direct_meaning.specs.Memory.{Fits}
+use Rattle.direct_meaning.specs.Direct.{plain}
 use Rattle.prompt_meaning.specs.Prompt.{prompt}
 use Rattle.copy_emit.specs.Template.{FirstLoop}
 use Rattle.copy_emit.specs.Law.{staged, Agrees}

@@ -9,12 +9,12 @@ use Rattle.affine_ast.specs.Names.{same_name, put}
 use Rattle.affine_ast.proofs.Nests.{nests}
 use Rattle.int_ops.specs.Wrapped.{wrapped, unsigned}
 use Rattle.int_ops.specs.Operation.{operation}
-use Rattle.nest_meaning.specs.Turns.{turns}
-use Rattle.nest_meaning.specs.Static.{results_of, lower_of, upper_of, holds_at, place_of, tag_of}
-use Rattle.nest_meaning.specs.Actions.{action_of, after_plain, actions}
-use Rattle.nest_meaning.specs.Memory.{start_env, module_actions}
-use Rattle.nest_meaning.specs.Direct.{folded, read, direct_step, plain}
-use Rattle.nest_meaning.specs.Work.{first_turn, last_end, full_work, work}
+use Rattle.direct_meaning.specs.Turns.{turns}
+use Rattle.direct_meaning.specs.Static.{results_of, lower_of, upper_of, holds_at, place_of, tag_of}
+use Rattle.direct_meaning.specs.Actions.{action_of, after_plain, actions}
+use Rattle.direct_meaning.specs.Memory.{start_env, module_actions}
+use Rattle.direct_meaning.specs.Direct.{folded, read, direct_step, plain}
+use Rattle.direct_meaning.specs.Work.{first_turn, last_end, full_work, work}
 use Rattle.prompt_meaning.specs.Device.{put_half, put_halves, started}
 use Rattle.prompt_meaning.specs.Prompt.{acts, prompt_step, prompt}
 use Rattle.copy_emit.specs.FirstPlan.{first_plan, other_letters}

@@ -7,9 +7,9 @@ use Rattle.affine_ast.specs.declared.types.Element.TheVariants.{I8, I32}
 use Rattle.int_ops.specs.declared.operation.Op.TheVariants as op
 use Rattle.bus_model.specs.declared.step.FaultKind.TheVariants as fault
 use Rattle.bus_model.specs.declared.step.Verdict.TheVariants as verdict
-use Rattle.nest_meaning.specs.Turns.{turns}
-use Rattle.nest_meaning.specs.Direct.{plain, state_of, verdict_of}
-use Rattle.nest_meaning.specs.Work.{work}
+use Rattle.direct_meaning.specs.Turns.{turns}
+use Rattle.direct_meaning.specs.Direct.{plain, state_of, verdict_of}
+use Rattle.direct_meaning.specs.Work.{work}
 use Rattle.prompt_meaning.specs.Prompt.{prompt, prompt_verdict, prompt_slow, prompt_numbers}
 use Rattle.copy_emit.specs.Template.{input_body, staged_body}
 use Rattle.copy_emit.specs.FirstPlan.{window_place, window_extent, first_staged, other_letters}

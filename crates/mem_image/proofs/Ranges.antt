@@ -5,7 +5,7 @@ use Rattle.std.proofs.lemmas.Int.{ints}
 use Rattle.std.proofs.lemmas.Nat.{pow_pos}
 use Rattle.affine_expr.specs.declared.map.Interval.{Interval}
 use Rattle.int_ops.specs.Wrapped.{InRange}
-use Rattle.nest_meaning.specs.Memory.{InInterval}
+use Rattle.direct_meaning.specs.Memory.{InInterval}
 use Rattle.mem_image.specs.Forms.{is_between, signed_range}
 use Rattle.mem_image.proofs.Numbers.{and_left, and_right}
 

@@ -8,7 +8,7 @@ use Rattle.affine_ast.specs.declared.image.Image.{Image}
 use Rattle.affine_ast.specs.declared.module.Arg.{Arg}
 use Rattle.affine_ast.specs.declared.module.Module.{Module}
 use Rattle.affine_ast.specs.Validity.{IsValid}
-use Rattle.nest_meaning.specs.Memory.{Fits, FitsArgs}
+use Rattle.direct_meaning.specs.Memory.{Fits, FitsArgs}
 use Rattle.mem_image.specs.Forms.{range_of_kind, is_between, is_name}
 use Rattle.mem_image.specs.Images.{own_numbers, memrefs_behind, symbols_behind, rows, Spells, HasNames, printed}
 use Rattle.mem_image.specs.Laws.{ReadBack}

@@ -16,7 +16,7 @@ use Rattle.affine_ast.specs.Intervals.{range_or}
 use Rattle.affine_ast.specs.Sizes.{element_bits}
 use Rattle.affine_expr.specs.declared.map.Interval.{Interval}
 use Rattle.int_ops.specs.Wrapped.{InRange}
-use Rattle.nest_meaning.specs.Memory.{FitsArg, FitsArgs}
+use Rattle.direct_meaning.specs.Memory.{FitsArg, FitsArgs}
 use Rattle.num_row.specs.Decimals.{decimal_value}
 use Rattle.mem_image.specs.Forms.{count_of, range_of_kind, is_between, is_name, are_numbers, name_in, numbers_in, values_in, has_form, are_between, rule_of_line}
 use Rattle.mem_image.specs.Growing.{memrefs_with, symbols_with}

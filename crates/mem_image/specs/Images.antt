@@ -10,7 +10,7 @@ use Rattle.affine_ast.specs.declared.module.Arg.{Arg}
 use Rattle.affine_ast.specs.declared.module.ArgKind.{ArgKind}
 use Rattle.affine_ast.specs.declared.module.ArgKind.TheVariants as kind
 use Rattle.affine_ast.specs.declared.module.Module.{Module}
-use Rattle.nest_meaning.specs.Memory.{Fits}
+use Rattle.direct_meaning.specs.Memory.{Fits}
 use Rattle.mem_image.specs.Lines.{Written, written}
 use Rattle.mem_image.specs.Forms.{is_name, are_numbers, rule_of_line}
 

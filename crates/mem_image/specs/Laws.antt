@@ -3,7 +3,7 @@ use Rattle.std.specs.Prelude.{◌≡◌, ◌⊎◌, ℕ, List}
 use Rattle.affine_ast.specs.declared.image.Image.{Image}
 use Rattle.affine_ast.specs.declared.module.Module.{Module}
 use Rattle.affine_ast.specs.Validity.{IsValid}
-use Rattle.nest_meaning.specs.Memory.{Fits}
+use Rattle.direct_meaning.specs.Memory.{Fits}
 use Rattle.mem_image.specs.Images.{Spells, HasNames, IsFirstBroken, printed}
 
 -- a text spells at most one image

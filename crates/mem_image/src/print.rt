@@ -1,6 +1,6 @@
 // Printing.
 ghost use Rattle.std.specs.Prelude.{◌≡◌, ◌++◌, flat_map, IfOk, OnOk};
-ghost use Rattle.nest_meaning.specs.Memory.{Fits};
+ghost use Rattle.direct_meaning.specs.Memory.{Fits};
 ghost use Rattle.mem_image.specs.Images as spec;
 
 use affine_ast::{ArgKind, Cells, Image, Verified};

@@ -6,8 +6,8 @@ use Rattle.affine_ast.specs.declared.name.Name.{Name}
 use Rattle.bus_model.specs.declared.step.FaultKind.{FaultKind}
 use Rattle.bus_model.specs.declared.step.FaultKind.TheVariants.{Touched, Race, Tag, Capacity, Shape}
 use Rattle.bus_model.specs.declared.transfer.Transfer.{Transfer}
-use Rattle.nest_meaning.specs.Action.{Place, Slow, Fast, Outside, Action, Known, Sets, Loads, Stores, RawLoads, RawStores, Operates, Converts, Allocates, Releases, AllocatesTags, ReleasesTags, Starts, Waits, Faults, Returns}
-use Rattle.nest_meaning.specs.Direct.{Outcome, End, Fault, then_do, folded, State, state_of, raw_place}
+use Rattle.direct_meaning.specs.Action.{Place, Slow, Fast, Outside, Action, Known, Sets, Loads, Stores, RawLoads, RawStores, Operates, Converts, Allocates, Releases, AllocatesTags, ReleasesTags, Starts, Waits, Faults, Returns}
+use Rattle.direct_meaning.specs.Direct.{Outcome, End, Fault, then_do, folded, State, state_of, raw_place}
 use Rattle.prompt_meaning.specs.Device.{Device, bytes_of, put_half, put_halves, allocated, is_away, is_started, has_away, has_started, load_races, store_races, start_races, recorded, copied_in, copied_out, started, record_of}
 use Rattle.prompt_meaning.specs.Prompt.{carried, refused, prompt_load, prompt_store, prompt_start, wait_on, acts, prompt_step}
 

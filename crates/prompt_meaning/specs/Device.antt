@@ -4,11 +4,11 @@ use Rattle.std.specs.List.{list_any}
 use Rattle.affine_ast.specs.declared.types.Element.{Element}
 use Rattle.int_ops.specs.Wrapped.{wrapped}
 use Rattle.bus_model.specs.declared.transfer.Transfer.{Transfer}
-use Rattle.nest_meaning.specs.Turns.{below}
-use Rattle.nest_meaning.specs.Transfers.{slow_place, meets, overlap}
-use Rattle.nest_meaning.specs.Static.{product, element_bits, element_bytes}
-use Rattle.nest_meaning.specs.Actions.{half_cells}
-use Rattle.nest_meaning.specs.Direct.{State}
+use Rattle.direct_meaning.specs.Turns.{below}
+use Rattle.direct_meaning.specs.Transfers.{slow_place, meets, overlap}
+use Rattle.direct_meaning.specs.Static.{product, element_bits, element_bytes}
+use Rattle.direct_meaning.specs.Actions.{half_cells}
+use Rattle.direct_meaning.specs.Direct.{State}
 
 pub record Device : Type 0 where
   -- what the names of data hold, and the slow list

@@ -8,9 +8,9 @@ use Rattle.bus_model.specs.declared.step.FaultKind.{FaultKind}
 use Rattle.bus_model.specs.declared.step.FaultKind.TheVariants.{Bounds, Touched, Race, Tag, Capacity, Shape}
 use Rattle.bus_model.specs.declared.step.Verdict.{Verdict}
 use Rattle.bus_model.specs.declared.transfer.Transfer.{Transfer}
-use Rattle.nest_meaning.specs.Action.{Place, Slow, Fast, Outside, Action, Known, Sets, Loads, Stores, RawLoads, RawStores, Operates, Converts, Allocates, Releases, AllocatesTags, ReleasesTags, Starts, Waits, Faults, Returns}
-use Rattle.nest_meaning.specs.Memory.{module_actions}
-use Rattle.nest_meaning.specs.Direct.{Outcome, End, Fault, State, keep, write, read, raw_place, direct_step, folded, first_state, verdict_of, state_of}
+use Rattle.direct_meaning.specs.Action.{Place, Slow, Fast, Outside, Action, Known, Sets, Loads, Stores, RawLoads, RawStores, Operates, Converts, Allocates, Releases, AllocatesTags, ReleasesTags, Starts, Waits, Faults, Returns}
+use Rattle.direct_meaning.specs.Memory.{module_actions}
+use Rattle.direct_meaning.specs.Direct.{Outcome, End, Fault, State, keep, write, read, raw_place, direct_step, folded, first_state, verdict_of, state_of}
 use Rattle.prompt_meaning.specs.Device.{Device, bytes_of, put_half, allocated, released, is_away, has_away, is_started, has_started, load_races, store_races, start_races, started, record_of, without}
 
 -- an action of the compute part alone, as the direct meaning has it

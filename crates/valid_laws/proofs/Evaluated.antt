@@ -24,13 +24,13 @@ use Rattle.affine_ast.specs.Names.{put}
 use Rattle.affine_ast.specs.Scope.{Totals, Around, counted, in_loop, in_condition, with_totals, behind_plain}
 use Rattle.affine_ast.specs.Validity.{Passed, then_told, told, rule_of_plain, rule_of_loop, rule_of_condition, IsValid}
 use Rattle.affine_ast.specs.Nest.{Plain, Nest, Nothing, Loop, Branch, Does, nest, Value, Load, Store, RawLoad, RawStore, Constant, Binary, Cast, Alloc, Dealloc, Start, Wait, Return}
-use Rattle.nest_meaning.specs.Actions.{after_plain, behind}
-use Rattle.nest_meaning.specs.Memory.{Fits, start_env}
-use Rattle.nest_meaning.specs.Pure.{AffineNest}
-use Rattle.nest_meaning.specs.Static.{Env, knows, numbers, lower_of, upper_of}
-use Rattle.nest_meaning.specs.Work.{Ranges, ranges_after, start_ranges}
-use Rattle.nest_meaning.proofs.RangeLaws.{InRanges}
-use Rattle.nest_meaning.proofs.RangesHold.{RangesHold, numbers_in, take_in, drop_in, put_in, lower_in, upper_in, plain_in, start_in}
+use Rattle.direct_meaning.specs.Actions.{after_plain, behind}
+use Rattle.direct_meaning.specs.Memory.{Fits, start_env}
+use Rattle.direct_meaning.specs.Pure.{AffineNest}
+use Rattle.direct_meaning.specs.Static.{Env, knows, numbers, lower_of, upper_of}
+use Rattle.direct_meaning.specs.Work.{Ranges, ranges_after, start_ranges}
+use Rattle.direct_meaning.proofs.RangeLaws.{InRanges}
+use Rattle.direct_meaning.proofs.RangesHold.{RangesHold, numbers_in, take_in, drop_in, put_in, lower_in, upper_in, plain_in, start_in}
 use Rattle.valid_laws.specs.Bounded.{BoundedAccess, BoundedSet, BoundedBound, BoundedPlain, BoundedNest}
 use Rattle.valid_laws.specs.Evaluable.{EachEvaluable, EvaluableAccess, EvaluableSet, EvaluableBound, EvaluablePlain, EvaluableNest}
 use Rattle.valid_laws.proofs.Passing.{judged_passed, then_passed, plain_holds, loop_holds, condition_holds, valid_passes, valid_affine}

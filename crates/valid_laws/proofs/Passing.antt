@@ -14,7 +14,7 @@ use Rattle.affine_ast.specs.Nest.{Plain, Nest, Nothing, Loop, Branch, Does, Valu
 use Rattle.affine_ast.specs.Rules.{access_pure, bound_pure, step_positive, maps_pure, uses_in_scope, defines_new, uses_stand, types_agree, constant_in_range, counts_fit, maps_bounded, spaces_agree, text_within, bound_in, is_new, bound_stands, bound_fits, bound_bounded, are_in, operands_stand, set_fits, set_pure, set_bounded}
 use Rattle.affine_ast.specs.Scope.{Totals, Around, counted, in_loop, in_condition, with_totals, behind_plain}
 use Rattle.affine_ast.specs.Validity.{Told, Broken, Passed, judged, then_told, rule, elements_within, told, told_arguments, rule_of_plain, rule_of_loop, rule_of_condition, rule_of_argument, behind_argument, told_module, outside, broken_of, first_broken, IsValid}
-use Rattle.nest_meaning.specs.Pure.{AffineAccess, AffineBound, AffinePlain, AffineNest}
+use Rattle.direct_meaning.specs.Pure.{AffineAccess, AffineBound, AffinePlain, AffineNest}
 use Rattle.valid_laws.proofs.Purities.{affine_of_pure}
 
 -- ---- inversions

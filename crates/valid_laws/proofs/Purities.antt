@@ -8,7 +8,7 @@ use Rattle.affine_expr.specs.declared.expr.Expr.TheOpen.{Expr-F}
 use Rattle.affine_expr.specs.Spread.{one_fixed, both_fixed}
 use Rattle.affine_expr.specs.Value.{floor_div, ceil_div, floor_mod}
 use Rattle.affine_expr.specs.Pure as expr
-use Rattle.nest_meaning.specs.Pure as meaning
+use Rattle.direct_meaning.specs.Pure as meaning
 
 positive_same : (o : Option ℤ) → expr.is_positive o ≡ meaning.is_positive o
 positive_same None = refl

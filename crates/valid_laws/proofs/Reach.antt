@@ -23,7 +23,7 @@ use Rattle.affine_ast.specs.Nest.{Plain, Nest, Nothing, Loop, Branch, Does, Valu
 use Rattle.affine_ast.specs.Rules.{is_in, defines_new, has_interval, row_bounded, is_small_dimension, access_bounded, set_bounded, bound_bounded, maps_bounded}
 use Rattle.affine_ast.specs.Scope.{Binding, Variable, Scope, range_of_binding, ranges_in, binding_of_constant, Totals, Around, counted, in_loop, in_condition, with_totals, behind_plain}
 use Rattle.affine_ast.specs.Validity.{Passed, then_told, told, told_arguments, rule_of_plain, rule_of_loop, rule_of_condition, rule_of_argument, behind_argument, told_module, outside, first_broken, IsValid}
-use Rattle.nest_meaning.specs.Work.{ranges_after, ranges_after_constant, arg_ranges, start_ranges}
+use Rattle.direct_meaning.specs.Work.{ranges_after, ranges_after_constant, arg_ranges, start_ranges}
 use Rattle.valid_laws.specs.Bounded.{BoundedAccess, BoundedSet, BoundedBound, BoundedPlain, BoundedNest}
 use Rattle.valid_laws.proofs.Passing.{rule_held, judged_passed, then_passed, plain_holds, loop_holds, condition_holds, passed_of}
 

@@ -10,7 +10,7 @@ use Rattle.affine_ast.specs.Intervals.{Ranges, first_turn, last_end, turn_range}
 use Rattle.affine_ast.specs.Names.{put}
 use Rattle.affine_ast.specs.Nest.{Plain, Nest, Nothing, Loop, Branch, Does, Value, Load, Store, Start, Wait}
 use Rattle.affine_ast.specs.Rules.{has_interval, row_bounded, is_small}
-use Rattle.nest_meaning.specs.Work.{ranges_after}
+use Rattle.direct_meaning.specs.Work.{ranges_after}
 
 -- each part of each result has its interval within 2 ^ 62, where the operands lie in these ranges
 abbrev pub BoundedAccess : Ranges → Access → Type 0

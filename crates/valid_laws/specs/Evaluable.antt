@@ -8,8 +8,8 @@ use Rattle.affine_ast.specs.declared.types.Access.{Access}
 use Rattle.affine_ast.specs.declared.types.Bound.{Bound}
 use Rattle.affine_ast.specs.declared.types.Bound.TheVariants as bound
 use Rattle.affine_ast.specs.Nest.{Plain, Nest, Nothing, Loop, Branch, Does, Value, Load, Store, Start, Wait}
-use Rattle.nest_meaning.specs.Static.{Env, knows, numbers, lower_of, upper_of}
-use Rattle.nest_meaning.specs.Actions.{after_plain, behind}
+use Rattle.direct_meaning.specs.Static.{Env, knows, numbers, lower_of, upper_of}
+use Rattle.direct_meaning.specs.Actions.{after_plain, behind}
 
 abbrev pub EachEvaluable : List ℤ → List ℤ → List Expr → Type 0
 EachEvaluable ds ss [] = Unit {0}

@@ -2,12 +2,12 @@
 use Rattle.affine_ast.specs.declared.module.Module.{Module}
 use Rattle.affine_ast.specs.Nest.{nest}
 use Rattle.affine_ast.specs.Validity.{IsValid}
-use Rattle.nest_meaning.specs.Pure.{AffineNest}
-use Rattle.nest_meaning.specs.Work.{start_ranges}
+use Rattle.direct_meaning.specs.Pure.{AffineNest}
+use Rattle.direct_meaning.specs.Work.{start_ranges}
 use Rattle.valid_laws.specs.Bounded.{BoundedNest}
 use Rattle.valid_laws.specs.Evaluable.{EvaluableNest}
 use Rattle.affine_ast.specs.declared.image.Image.{Image}
-use Rattle.nest_meaning.specs.Memory.{Fits, start_env}
+use Rattle.direct_meaning.specs.Memory.{Fits, start_env}
 
 -- its bounds and values are affine, and its steps positive
 abbrev pub ValidIsAffine : Type 0

@@ -1,6 +1,6 @@
 //! Laws of a valid module: its bounds and values are affine and its steps positive, and all its affine values stay within 2^62.
 //!
-//! The laws of ranges of `nest_meaning` ask for the first, and say that the numbers of a run lie in the ranges of the second. The crate stands on `affine_ast` and `nest_meaning`.
+//! The laws of ranges of `direct_meaning` ask for the first, and say that the numbers of a run lie in the ranges of the second. The crate stands on `affine_ast` and `direct_meaning`.
 #![tactic(auto)]
 
 ghost use Rattle.valid_laws.specs.Laws.{ValidIsAffine, ValidIsBounded, ValidIsEvaluable};

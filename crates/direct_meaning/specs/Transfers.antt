@@ -2,7 +2,7 @@
 use Rattle.std.specs.Prelude.{ℕ, ◌+◌, ◌*◌, ◌/◌, ◌%◌, Bool, List, map, nat_eq, nat_lt}
 use Rattle.std.specs.List.{list_any, list_all}
 use Rattle.bus_model.specs.declared.transfer.Transfer.{Transfer}
-use Rattle.nest_meaning.specs.Turns.{below}
+use Rattle.direct_meaning.specs.Turns.{below}
 
 -- the slow place of an element: chunks of side by side elements, begun a stride apart
 abbrev pub slow_place : Transfer → ℕ → ℕ

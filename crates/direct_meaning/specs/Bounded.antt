@@ -2,10 +2,10 @@
 use Rattle.std.specs.Prelude.{◌≤◌, ℤ, ◌≤ℤ◌, ◌<ℤ◌, length}
 use Rattle.affine_ast.specs.Names.{put}
 use Rattle.affine_ast.specs.Nest.{Nest, Nothing, Loop, Branch, Does}
-use Rattle.nest_meaning.specs.Turns.{turns}
-use Rattle.nest_meaning.specs.Static.{Env, knows, lower_of, upper_of}
-use Rattle.nest_meaning.specs.Actions.{after_plain, behind}
-use Rattle.nest_meaning.specs.Work.{Ranges, first_turn, last_end, turn_range, turn_count, ranges_after}
+use Rattle.direct_meaning.specs.Turns.{turns}
+use Rattle.direct_meaning.specs.Static.{Env, knows, lower_of, upper_of}
+use Rattle.direct_meaning.specs.Actions.{after_plain, behind}
+use Rattle.direct_meaning.specs.Work.{Ranges, first_turn, last_end, turn_range, turn_count, ranges_after}
 
 -- each loop that the statements come to has no more turns than its ranges say
 abbrev pub TurnsBounded : Nest → Env → Ranges → Type 0

@@ -5,7 +5,7 @@
 //! stands on the trees of `affine_ast` and `affine_expr`, the operations of `int_ops` and the transfers of `bus_model`.
 #![tactic(auto)]
 
-ghost use Rattle.nest_meaning.specs.WorkLaw.{ActionsWithinWork};
+ghost use Rattle.direct_meaning.specs.WorkLaw.{ActionsWithinWork};
 
 /// The list of a module's actions is never longer than the module's work, where its bounds and values are affine and its
 /// steps positive: a bound from the text alone on how long every run is.

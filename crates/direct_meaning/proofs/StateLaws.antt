@@ -6,8 +6,8 @@ use Rattle.affine_ast.specs.declared.name.Name.{Name}
 use Rattle.affine_ast.specs.Names.{same_name}
 use Rattle.affine_ast.proofs.Names.{put-other}
 use Rattle.int_ops.specs.Operation.{operation}
-use Rattle.nest_meaning.specs.Action.{Place, Slow, Fast, Outside, Action, Known, Sets, Loads, Stores, RawLoads, RawStores, Operates, Converts, Allocates, Releases, AllocatesTags, ReleasesTags, Starts, Waits, Faults, Returns}
-use Rattle.nest_meaning.specs.Direct.{State, state_of, read, raw_place, direct_load, direct_store, keep_result, direct_step}
+use Rattle.direct_meaning.specs.Action.{Place, Slow, Fast, Outside, Action, Known, Sets, Loads, Stores, RawLoads, RawStores, Operates, Converts, Allocates, Releases, AllocatesTags, ReleasesTags, Starts, Waits, Faults, Returns}
+use Rattle.direct_meaning.specs.Direct.{State, state_of, read, raw_place, direct_load, direct_store, keep_result, direct_step}
 
 -- whether an action gives a name a new value
 abbrev pub sets : Action → Name → Bool

@@ -12,9 +12,9 @@ use Rattle.affine_ast.specs.declared.module.Module.{Module}
 use Rattle.affine_ast.specs.Names.{put}
 use Rattle.affine_ast.specs.Nest.{nest}
 use Rattle.int_ops.specs.Wrapped.{InRange}
-use Rattle.nest_meaning.specs.Action.{SlowMemref, Action}
-use Rattle.nest_meaning.specs.Static.{Env, knows, product, element_bits}
-use Rattle.nest_meaning.specs.Actions.{actions}
+use Rattle.direct_meaning.specs.Action.{SlowMemref, Action}
+use Rattle.direct_meaning.specs.Static.{Env, knows, product, element_bits}
+use Rattle.direct_meaning.specs.Actions.{actions}
 
 -- the slow list: the elements of the memref arguments in order, each row-major
 abbrev pub slow_list : List Cells → List ℤ

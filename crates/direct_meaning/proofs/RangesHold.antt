@@ -26,16 +26,16 @@ use Rattle.affine_ast.specs.declared.types.MemrefType.{MemrefType}
 use Rattle.affine_ast.specs.Names.{same_name, put}
 use Rattle.affine_ast.proofs.Names.{put-same, put-other}
 use Rattle.affine_ast.specs.Nest.{Plain, Nest, Nothing, Loop, Branch, Does, Value, Load, Store, RawLoad, RawStore, Constant, Binary, Cast, Alloc, Dealloc, Start, Wait, Return, nest}
-use Rattle.nest_meaning.specs.Static.{Env, knows, number, numbers, results_of, least, greatest, picked, lower_of, upper_of}
-use Rattle.nest_meaning.specs.Actions.{after_plain, behind, is_fast, after_alloc, after_constant}
-use Rattle.nest_meaning.specs.Memory.{FitsArg, FitsArgs, Placed, place_kind, place_arg, empty_env, start_env, module_actions, range_or, Fits}
-use Rattle.nest_meaning.specs.Work.{Ranges, ranges_at, over_all, picked_range, first_turn, last_end, turn_range, ranges_after, ranges_after_constant, arg_ranges, start_ranges, work}
-use Rattle.nest_meaning.specs.Bounded.{TurnsBounded}
-use Rattle.nest_meaning.specs.Pure.{is_affine, AffineAccess, AffineBound, AffinePlain, AffineNest}
-use Rattle.nest_meaning.specs.WorkLaw.{ActionsWithinWork}
-use Rattle.nest_meaning.proofs.RangeLaws.{InRanges, leaf_in, value_in}
-use Rattle.nest_meaning.proofs.TurnLaws.{turns_bounded}
-use Rattle.nest_meaning.proofs.WorkLaws.{work_bounds}
+use Rattle.direct_meaning.specs.Static.{Env, knows, number, numbers, results_of, least, greatest, picked, lower_of, upper_of}
+use Rattle.direct_meaning.specs.Actions.{after_plain, behind, is_fast, after_alloc, after_constant}
+use Rattle.direct_meaning.specs.Memory.{FitsArg, FitsArgs, Placed, place_kind, place_arg, empty_env, start_env, module_actions, range_or, Fits}
+use Rattle.direct_meaning.specs.Work.{Ranges, ranges_at, over_all, picked_range, first_turn, last_end, turn_range, ranges_after, ranges_after_constant, arg_ranges, start_ranges, work}
+use Rattle.direct_meaning.specs.Bounded.{TurnsBounded}
+use Rattle.direct_meaning.specs.Pure.{is_affine, AffineAccess, AffineBound, AffinePlain, AffineNest}
+use Rattle.direct_meaning.specs.WorkLaw.{ActionsWithinWork}
+use Rattle.direct_meaning.proofs.RangeLaws.{InRanges, leaf_in, value_in}
+use Rattle.direct_meaning.proofs.TurnLaws.{turns_bounded}
+use Rattle.direct_meaning.proofs.WorkLaws.{work_bounds}
 
 abbrev pub RangesHold : Env → Ranges → Type 0
 RangesHold e rho = (n : Name) → Within (number (e.known n)) (rho n)

@@ -10,9 +10,9 @@ use Rattle.bus_model.specs.declared.step.FaultKind.{FaultKind}
 use Rattle.bus_model.specs.declared.step.FaultKind.TheVariants.{Bounds, Divide}
 use Rattle.bus_model.specs.declared.step.Verdict.{Verdict}
 use Rattle.bus_model.specs.declared.step.Verdict.TheVariants as verdict
-use Rattle.nest_meaning.specs.Action.{Home, Place, Slow, Fast, Outside, Operand, Number, Register, Action, Known, Sets, Loads, Stores, RawLoads, RawStores, Operates, Converts, Allocates, Releases, AllocatesTags, ReleasesTags, Starts, Waits, Faults, Returns}
-use Rattle.nest_meaning.specs.Static.{place_at}
-use Rattle.nest_meaning.specs.Memory.{slow_list, module_actions}
+use Rattle.direct_meaning.specs.Action.{Home, Place, Slow, Fast, Outside, Operand, Number, Register, Action, Known, Sets, Loads, Stores, RawLoads, RawStores, Operates, Converts, Allocates, Releases, AllocatesTags, ReleasesTags, Starts, Waits, Faults, Returns}
+use Rattle.direct_meaning.specs.Static.{place_at}
+use Rattle.direct_meaning.specs.Memory.{slow_list, module_actions}
 
 -- how a run ends: after its last action, or at a fault, with the state as it is then
 pub data Outcome (S : Type 0) : Type 0 where

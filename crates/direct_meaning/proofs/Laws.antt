@@ -10,11 +10,11 @@ use Rattle.affine_expr.specs.declared.map.Set.{Set}
 use Rattle.affine_ast.specs.declared.name.Name.{Name}
 use Rattle.affine_ast.specs.declared.types.Bound.{Bound}
 use Rattle.affine_ast.specs.Nest.{Plain, Nest, Nothing, Loop, Branch, Does, followed_by}
-use Rattle.nest_meaning.specs.Turns.{gap, turns, turns_within}
-use Rattle.nest_meaning.specs.Action.{Action}
-use Rattle.nest_meaning.specs.Static.{Env, knows, lower_of, upper_of, holds_at}
-use Rattle.nest_meaning.specs.Actions.{action_of, after_plain, behind, actions, after}
-use Rattle.nest_meaning.specs.Direct.{Outcome, End, Fault, then_do, folded}
+use Rattle.direct_meaning.specs.Turns.{gap, turns, turns_within}
+use Rattle.direct_meaning.specs.Action.{Action}
+use Rattle.direct_meaning.specs.Static.{Env, knows, lower_of, upper_of, holds_at}
+use Rattle.direct_meaning.specs.Actions.{action_of, after_plain, behind, actions, after}
+use Rattle.direct_meaning.specs.Direct.{Outcome, End, Fault, then_do, folded}
 
 -- the fold over two lists, one after the other
 pub then_do_assoc : {S : Type 0} (o : Outcome S) (f g : S → Outcome S) → then_do (then_do o f) g ≡ then_do o (λ s. then_do (f s) g)

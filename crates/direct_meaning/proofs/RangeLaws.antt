@@ -11,8 +11,8 @@ use Rattle.affine_expr.specs.declared.expr.Expr.{Expr, ind-Expr, map-Expr, roll-
 use Rattle.affine_expr.specs.declared.expr.Expr.TheOpen.{Expr-F}
 use Rattle.affine_expr.specs.Value.{floor_div, ceil_div, floor_mod, value_step, value}
 use Rattle.affine_expr.specs.Spread.{Range, only, Within, Spread, scaled, range_of_product, range_of_floor, range_of_ceil, range_of_mod, both_fixed, one_fixed, spread_step, spread}
-use Rattle.nest_meaning.specs.Pure.{Purity, is_positive, purity_step, purity}
-use Rattle.nest_meaning.proofs.TurnLaws.{floor_is}
+use Rattle.direct_meaning.specs.Pure.{Purity, is_positive, purity_step, purity}
+use Rattle.direct_meaning.proofs.TurnLaws.{floor_is}
 
 -- products by one number
 grows : (n : ℕ) (a b : ℤ) → a ≤ℤ b → (pos n *ℤ a) ≤ℤ (pos n *ℤ b)

@@ -6,12 +6,12 @@ use Rattle.std.proofs.lemmas.Int.{ints}
 use Rattle.std.proofs.lemmas.List.{length-append}
 use Rattle.affine_ast.specs.Names.{put}
 use Rattle.affine_ast.specs.Nest.{Plain, Nest, Nothing, Loop, Branch, Does, Value, Load, Store, RawLoad, RawStore, Constant, Binary, Cast, Alloc, Dealloc, Start, Wait, Return}
-use Rattle.nest_meaning.specs.Turns.{gap, turns, turns_within}
-use Rattle.nest_meaning.specs.Action.{Action}
-use Rattle.nest_meaning.specs.Static.{Env, knows, lower_of, upper_of, holds_at}
-use Rattle.nest_meaning.specs.Actions.{after_plain, behind, actions}
-use Rattle.nest_meaning.specs.Work.{Ranges, first_turn, last_end, turn_range, turn_count, ranges_after, plain_work, full_work}
-use Rattle.nest_meaning.specs.Bounded.{TurnsBounded}
+use Rattle.direct_meaning.specs.Turns.{gap, turns, turns_within}
+use Rattle.direct_meaning.specs.Action.{Action}
+use Rattle.direct_meaning.specs.Static.{Env, knows, lower_of, upper_of, holds_at}
+use Rattle.direct_meaning.specs.Actions.{after_plain, behind, actions}
+use Rattle.direct_meaning.specs.Work.{Ranges, first_turn, last_end, turn_range, turn_count, ranges_after, plain_work, full_work}
+use Rattle.direct_meaning.specs.Bounded.{TurnsBounded}
 
 -- what holds of each element
 abbrev pub Every : {A : Type 0} → (A → Type 0) → List A → Type 0

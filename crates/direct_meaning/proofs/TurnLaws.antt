@@ -6,9 +6,9 @@ use Rattle.std.proofs.lemmas.Int.{ints}
 use Rattle.std.proofs.lemmas.Nat.{div-add-mod'}
 use Rattle.std.proofs.Math.Nat.{mod-lt}
 use Rattle.affine_expr.specs.Value.{floor_div, ceil_div}
-use Rattle.nest_meaning.specs.Turns.{gap, turns}
-use Rattle.nest_meaning.specs.Work.{turn_count}
-use Rattle.nest_meaning.proofs.Laws.{turns_more, turns_end}
+use Rattle.direct_meaning.specs.Turns.{gap, turns}
+use Rattle.direct_meaning.specs.Work.{turn_count}
+use Rattle.direct_meaning.proofs.Laws.{turns_more, turns_end}
 
 step_is : (s : ℕ) → 1 ≤ s → int_max (pos 1) (pos s) ≡ pos s
 step_is s h = grind (arith, ints, h)

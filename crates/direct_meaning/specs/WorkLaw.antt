@@ -3,9 +3,9 @@ use Rattle.std.specs.Prelude.{◌≤◌, ◌<◌, ◌^◌, length}
 use Rattle.affine_ast.specs.declared.image.Image.{Image}
 use Rattle.affine_ast.specs.declared.module.Module.{Module}
 use Rattle.affine_ast.specs.Nest.{nest}
-use Rattle.nest_meaning.specs.Memory.{Fits, module_actions}
-use Rattle.nest_meaning.specs.Pure.{AffineNest}
-use Rattle.nest_meaning.specs.Work.{full_work, start_ranges, work}
+use Rattle.direct_meaning.specs.Memory.{Fits, module_actions}
+use Rattle.direct_meaning.specs.Pure.{AffineNest}
+use Rattle.direct_meaning.specs.Work.{full_work, start_ranges, work}
 
 -- a module of affine bounds and values and positive steps has, from every memory that fits it, no more actions than its
 -- work; where the work saturates, than what it is before that

@@ -9,10 +9,10 @@ use Rattle.affine_ast.specs.Names.{put}
 use Rattle.affine_ast.specs.Nest.{Plain, Nest, Nothing, Loop, Branch, Does, Value, Load, Store, RawLoad, RawStore, Constant, Binary, Cast, Alloc, Dealloc, Start, Wait, Return}
 use Rattle.bus_model.specs.declared.step.FaultKind.TheVariants.{Bounds, Shape}
 use Rattle.bus_model.specs.declared.transfer.Transfer.{Transfer}
-use Rattle.nest_meaning.specs.Turns.{turns, gap}
-use Rattle.nest_meaning.specs.Transfers.{ends_by}
-use Rattle.nest_meaning.specs.Action.{Home, SlowMemref, FastMemref, TagMemref, Place, Slow, Fast, Action, Known, Sets, Loads, Stores, RawLoads, RawStores, Operates, Converts, Allocates, Releases, AllocatesTags, ReleasesTags, Starts, Waits, Faults, Returns}
-use Rattle.nest_meaning.specs.Static.{Env, knows, forgets, number, operand, results_of, picked, lower_of, upper_of, holds_at, product, place_of, tag_of, scalar_bits}
+use Rattle.direct_meaning.specs.Turns.{turns, gap}
+use Rattle.direct_meaning.specs.Transfers.{ends_by}
+use Rattle.direct_meaning.specs.Action.{Home, SlowMemref, FastMemref, TagMemref, Place, Slow, Fast, Action, Known, Sets, Loads, Stores, RawLoads, RawStores, Operates, Converts, Allocates, Releases, AllocatesTags, ReleasesTags, Starts, Waits, Faults, Returns}
+use Rattle.direct_meaning.specs.Static.{Env, knows, forgets, number, operand, results_of, picked, lower_of, upper_of, holds_at, product, place_of, tag_of, scalar_bits}
 
 abbrev pub constant_of : Name → ℤ → Scalar → Action
 constant_of r z (Int e) = Sets r z

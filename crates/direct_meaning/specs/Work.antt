@@ -19,8 +19,8 @@ use Rattle.affine_ast.specs.declared.types.Scalar.{Scalar}
 use Rattle.affine_ast.specs.declared.types.Scalar.TheVariants as scalar
 use Rattle.affine_ast.specs.Names.{put}
 use Rattle.affine_ast.specs.Nest.{Plain, Nest, Nothing, Loop, Branch, Does, Value, Load, RawLoad, Constant, Binary, Cast, Start, nest}
-use Rattle.nest_meaning.specs.Turns.{gap}
-use Rattle.nest_meaning.specs.Memory.{range_or}
+use Rattle.direct_meaning.specs.Turns.{gap}
+use Rattle.direct_meaning.specs.Memory.{range_or}
 
 -- how many turns: max(0, ceil((b - a) / step))
 abbrev pub turn_count : ℤ → ℤ → ℤ → ℕ
