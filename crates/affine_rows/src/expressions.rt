@@ -1,9 +1,12 @@
 // Values, intervals and linear forms of affine expressions.
-ghost use Rattle.std.specs.Prelude.{◌≡◌, IfOk, pos};
+ghost use Rattle.std.specs.Prelude.{◌≡◌, [], ◌∷◌, IfOk, IfSome, IsTrue, pos, true};
+ghost use Rattle.affine_expr.specs.Bounded.{Evaluable};
+ghost use Rattle.affine_expr.specs.Pure.{is_pure, has_leaves_below};
+ghost use Rattle.affine_expr.specs.Value.{value};
 ghost use Rattle.affine_expr.specs.declared.expr.Expr.TheVariants as e;
 
-use affine_expr::{Expr, Interval, LinearFault};
-use sqlite_items::Boxed;
+use affine_expr::{Constraint, Expr, Interval, LinearFault, Rel, Set};
+use sqlite_items::{Boxed, Items};
 use std::alloc::{AllocError, Global};
 use std::test::Fail;
 
@@ -111,5 +114,74 @@ fn linear_forms_of_expressions(rt: HostRuntime) -> Result<(), Fail> {
     );
     let wide = past_128_bits(alloc)?;
     assert!(rt; matches!(wide.linear(alloc, 1, 0), Err(LinearFault::Wide)));
+    Ok(())
+}
+
+/// Whether the only dimension may be this number: it lies in the interval, and each part keeps within its limits there.
+fn is_reached(expr: &Expr, at: i64) -> bool
+    requires pure { is_pure expr.now ≡ true }
+    requires leaves { has_leaves_below 1 0 expr.now ≡ true }
+    ensures { IsTrue result → Evaluable (at ∷ []) [] expr.now }
+{
+    at >= WIDE.least && at <= WIDE.greatest && expr.interval(&[WIDE], &[]).is_some()
+}
+
+/// The value where the only dimension is this number.
+fn value_at(expr: &Expr, at: i64) -> Option<i128>
+    requires pure { is_pure expr.now ≡ true }
+    requires leaves { has_leaves_below 1 0 expr.now ≡ true }
+    ensures { IfSome result (λ z. z ≡ value (at ∷ []) [] expr.now) }
+{
+    if !is_reached(expr, at) {
+        return None;
+    }
+    Some(expr.eval(&[at], &[]))
+}
+
+#[test]
+#[tactic(auto, unfolding(affine_expr::specs::Pure::is_pure, affine_expr::specs::Pure::has_leaves_below))]
+fn values_of_expressions(rt: HostRuntime) -> Result<(), Fail> {
+    let alloc = rt.alloc();
+    let remainder = less_seven_mod_four(alloc)?;
+    for (at, value) in [(0, 1), (7, 0), (9, 2), (-5, 0)] {
+        assert!(rt; matches!(value_at(&remainder, at), Some(found) if found == value));
+    }
+    let quotient = thirds(alloc)?;
+    for (at, value) in [(-4, -1), (4, 2), (3, 1), (0, 0)] {
+        assert!(rt; matches!(value_at(&quotient, at), Some(found) if found == value));
+    }
+    Ok(())
+}
+
+/// Whether the only dimension compares so with 2 where it is this number.
+#[tactic(auto, unfolding(affine_expr::specs::Pure::is_pure, affine_expr::specs::Pure::has_leaves_below))]
+fn compares_with_two(alloc: Global, rel: Rel, at: i64) -> Result<Option<bool>, AllocError> {
+    let left = Expr::Dim(0);
+    let right = Expr::Const(2);
+    if !is_reached(&left, at) || !is_reached(&right, at) {
+        return Ok(None);
+    }
+    let mut rows = Items::new(alloc);
+    rows.push(Constraint { left, rel, right })?;
+    let set = Set {
+        dims: 1,
+        syms: 0,
+        rows,
+    };
+    Ok(Some(set.holds(&[at], &[])))
+}
+
+#[test]
+fn constraints_hold_or_not(rt: HostRuntime) -> Result<(), Fail> {
+    let alloc = rt.alloc();
+    for (at, least, equal, most) in [
+        (1, false, false, true),
+        (2, true, true, true),
+        (3, true, false, false),
+    ] {
+        assert!(rt; compares_with_two(alloc, Rel::Ge, at)? == Some(least));
+        assert!(rt; compares_with_two(alloc, Rel::Eq, at)? == Some(equal));
+        assert!(rt; compares_with_two(alloc, Rel::Le, at)? == Some(most));
+    }
     Ok(())
 }
