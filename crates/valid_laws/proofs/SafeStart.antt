@@ -20,6 +20,7 @@ use Rattle.affine_ast.specs.Scope.{Symbol, MemrefArgument, Totals, Around}
 use Rattle.affine_ast.specs.Sizes.{product}
 use Rattle.affine_ast.specs.Validity.{Passed, told, told_arguments, rule_of_argument, with_argument, range_ordered, range_small, argument_is_slow, argument_shape, behind_argument, told_module, outside, first_broken, IsValid}
 use Rattle.direct_meaning.specs.Action.{SlowMemref}
+use Rattle.direct_meaning.specs.Static.{Env}
 use Rattle.direct_meaning.specs.Memory.{InInterval, FitsArg, FitsArgs, Fits, Placed, place_kind, place_arg, empty_env, start_env}
 use Rattle.valid_laws.specs.Laws.{ValidIsSafe}
 use Rattle.valid_laws.specs.Safe.{IsSmall, IsSlow}
@@ -120,27 +121,65 @@ arg_stands args (Index range) name a p cells Then more fits h k = by p.symbols r
         (index_stands a p name range h k (subst (InInterval (range_or range)) (sym (ap (λ ys. slice_index_or ys 0 (pos 0)) is)) f.0))
         (subst (FitsArgs args cells) (sym (ap (drop 1) is)) f.1)
 
-pub args_stand : (args : List Arg) (body : Nest) (a : Around) (t : Totals) (p : Placed) (cells : List Cells) → ArgumentsStand a p → FitsArgs args cells p.symbols → told_arguments args (told body) a ≡ Passed t
-    → (b : Around) × (told body b ≡ Passed t) × ArgumentsStand b (fold place_arg p args)
-unfolding told_arguments
-args_stand [] body a t p cells h fits k = (a, k, h)
-args_stand (arg ∷ args) body a t p cells h fits k =
-    let j = judged_passed arg.line (rule_of_argument a arg.name arg.kind) _ t k in
-    arg_stands args arg.kind arg.name a p cells (λ a p. told_arguments args (told body) a ≡ Passed t → (b : Around) × (told body b ≡ Passed t) × ArgumentsStand b (fold place_arg p args))
-    (λ a p cells h fits k. args_stand args body a t p cells h fits k) fits h (argument_holds a arg.name arg.kind j.0) j.1
+-- what stands round the statements behind arguments
+abbrev pub behind_arguments : List Arg → Around → Around
+behind_arguments [] a = a
+behind_arguments (arg ∷ args) a = behind_arguments args (behind_argument arg.name arg.kind a)
 
-pub start_stands : (m : Module) → IsValid m → (memory : Image) → Fits m memory
-    → (b : Around) × (t : Totals) × (told (nest m.body) b ≡ Passed t) × ScopeStands b.scope (start_env m.args memory.symbols) × IsCounted b.totals (start_env m.args memory.symbols).fasts (start_env m.args memory.symbols).tags
+-- no argument breaks a rule
+abbrev pub ArgumentsHold : List Arg → Around → Type 0
+ArgumentsHold [] a = Unit {0}
+ArgumentsHold (arg ∷ args) a = ArgumentHolds a arg.name arg.kind × ArgumentsHold args (behind_argument arg.name arg.kind a)
+
+pub arguments_hold : (args : List Arg) (body : Nest) (a : Around) (t : Totals) → told_arguments args (told body) a ≡ Passed t → ArgumentsHold args a
+unfolding told_arguments
+arguments_hold [] body a t k = tt
+arguments_hold (arg ∷ args) body a t k =
+    let j = judged_passed arg.line (rule_of_argument a arg.name arg.kind) _ t k in
+    (argument_holds a arg.name arg.kind j.0, arguments_hold args body (behind_argument arg.name arg.kind a) t j.1)
+
+args_passed : (args : List Arg) (body : Nest) (a : Around) (t : Totals) → told_arguments args (told body) a ≡ Passed t → told body (behind_arguments args a) ≡ Passed t
+unfolding told_arguments
+args_passed [] body a t k = k
+args_passed (arg ∷ args) body a t k =
+    let j = judged_passed arg.line (rule_of_argument a arg.name arg.kind) _ t k in
+    args_passed args body (behind_argument arg.name arg.kind a) t j.1
+
+args_stand : (args : List Arg) (a : Around) (p : Placed) (cells : List Cells) → ArgumentsStand a p → FitsArgs args cells p.symbols → ArgumentsHold args a → ArgumentsStand (behind_arguments args a) (fold place_arg p args)
+args_stand [] a p cells h fits k = h
+args_stand (arg ∷ args) a p cells h fits k =
+    arg_stands args arg.kind arg.name a p cells (λ a p. ArgumentsHold args a → ArgumentsStand (behind_arguments args a) (fold place_arg p args))
+    (λ a p cells h fits k. args_stand args a p cells h fits k) fits h k.0 k.1
+
+-- what stands round a module's body
+abbrev pub start_around : Module → Around
+start_around m = behind_arguments m.args outside
+
+-- the body of a valid module passes, and its names stand for what they do
+pub record Starts (m : Module) (e : Env) : Type 0 where
+  pub totals : Totals
+  pub arguments : ArgumentsHold m.args outside
+  pub passed : told (nest m.body) (start_around m) ≡ Passed totals
+  pub stands : ScopeStands (start_around m).scope e
+  pub counted : IsCounted (start_around m).totals e.fasts e.tags
+
+pub start_stands : (m : Module) → IsValid m → (memory : Image) → Fits m memory → Starts m (start_env m.args memory.symbols)
 unfolding first_broken told_module start_env
 start_stands m h memory fits =
     let p = passed_of (told_arguments m.args (told (nest m.body)) outside) h in
-    let start : ArgumentsStand outside (record { env = empty_env; memrefs = 0; elements = 0; symbols = memory.symbols }) =
-    record { scope = λ n. (refl, refl); memrefs = refl; elements = refl; fasts = refl; tags = refl; no_statements = refl; no_tags = refl } in
-    let q = args_stand m.args (nest m.body) outside p.0 (record { env = empty_env; memrefs = 0; elements = 0; symbols = memory.symbols }) memory.memrefs start fits.fits p.1 in
-    let e = q.2 in
-    (q.0, p.0, q.1, e.scope, record { statements_fit = omega (arith, e.no_statements); tags_fit = omega (arith, e.no_tags); fasts = omega (arith, e.fasts); tags = omega (arith, e.tags) })
+    let all = arguments_hold m.args (nest m.body) outside p.0 p.1 in
+    let none : ArgumentsStand outside (record { env = empty_env; memrefs = 0; elements = 0; symbols = memory.symbols }) =
+        record { scope = λ n. (refl, refl); memrefs = refl; elements = refl; fasts = refl; tags = refl; no_statements = refl; no_tags = refl } in
+    let e = args_stand m.args outside (record { env = empty_env; memrefs = 0; elements = 0; symbols = memory.symbols }) memory.memrefs none fits.fits all in
+    record {
+      totals = p.0;
+      arguments = all;
+      passed = args_passed m.args (nest m.body) outside p.0 p.1;
+      stands = e.scope;
+      counted = record { statements_fit = omega (arith, e.no_statements); tags_fit = omega (arith, e.no_tags); fasts = omega (arith, e.fasts); tags = omega (arith, e.tags) };
+    }
 
 pub valid_safe : ValidIsSafe
 valid_safe m h memory fits =
     let s = start_stands m h memory fits in
-    safe_of_told (nest m.body) s.0 s.1 (start_env m.args memory.symbols) s.3 s.4 (valid_evaluable m h memory fits) s.2
+    safe_of_told (nest m.body) (start_around m) s.totals (start_env m.args memory.symbols) s.stands s.counted (valid_evaluable m h memory fits) s.passed
