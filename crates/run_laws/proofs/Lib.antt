@@ -6,3 +6,6 @@ pub mod RunHolds
 pub mod Memories
 pub mod Held
 pub mod Conclusions
+pub mod MetValues
+pub mod Within
+pub mod Once

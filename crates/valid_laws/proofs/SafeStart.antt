@@ -169,7 +169,7 @@ start_stands m h memory fits =
     let p = passed_of (told_arguments m.args (told (nest m.body)) outside) h in
     let all = arguments_hold m.args (nest m.body) outside p.0 p.1 in
     let none : ArgumentsStand outside (record { env = empty_env; memrefs = 0; elements = 0; symbols = memory.symbols }) =
-        record { scope = λ n. (refl, refl); memrefs = refl; elements = refl; fasts = refl; tags = refl; no_statements = refl; no_tags = refl } in
+    record { scope = λ n. (refl, refl); memrefs = refl; elements = refl; fasts = refl; tags = refl; no_statements = refl; no_tags = refl } in
     let e = args_stand m.args outside (record { env = empty_env; memrefs = 0; elements = 0; symbols = memory.symbols }) memory.memrefs none fits.fits all in
     record {
       totals = p.0;

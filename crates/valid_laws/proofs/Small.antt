@@ -28,7 +28,7 @@ small_fits z h = record { least = omega (arith, ints, h.least); most = omega (ar
 zero_small : IsSmall (pos 0)
 zero_small = record { least = omega (arith, ints); most = omega (arith, ints) }
 
-not_false : (b : Bool) → not b ≡ true → b ≡ false
+pub not_false : (b : Bool) → not b ≡ true → b ≡ false
 not_false true h = absurd (let z : ⊥ = cc in z)
 not_false false h = refl
 
@@ -41,7 +41,7 @@ small_between a b t h k from to = record { least = omega (arith, ints, h.least, 
 
 -- ---- results of maps
 
-shown_some : (b : Option Spread) → IsSome (shown b) → IsSome b
+pub shown_some : (b : Option Spread) → IsSome (shown b) → IsSome b
 shown_some None h = absurd (let z : ⊥ = cc in z)
 shown_some (Some t) h = refl
 
