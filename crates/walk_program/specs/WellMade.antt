@@ -2,7 +2,7 @@
 use Rattle.std.specs.Prelude.{◌<◌, All, length}
 use Rattle.walk_program.specs.declared.program.Argument.{Argument}
 use Rattle.walk_program.specs.declared.program.Program.{Program}
-use Rattle.walk_program.specs.Counted.{Counts-of, Counted}
+use Rattle.walk_program.specs.Counted.{CountsOf, Counted}
 use Rattle.walk_program.specs.Names.{AreDistinct}
 use Rattle.walk_program.specs.Numbered.{Numbered}
 use Rattle.walk_program.specs.Reading.{nest_of}
@@ -15,4 +15,4 @@ pub record WellMade (p : Program) : Type 0 where
   pub arguments : All (λ (a : Argument). a.name < length p.names) p.arguments
   pub numbered : Numbered (length p.names) p.width (tree p.body)
   pub counted : Counted p.names (tree p.body)
-  pub inside : Counts-of (nest_of p.names (tree p.body)) p.inside
+  pub inside : CountsOf (nest_of p.names (tree p.body)) p.inside
