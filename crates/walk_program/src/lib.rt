@@ -7,7 +7,9 @@
 //! `affine_ast`, `affine_expr`, `int_ops`, `direct_meaning` (for the counts of allocations), `sqlite_items` and `indexmap`.
 #![tactic(auto)]
 
+mod numbering;
 mod plain;
+mod plains;
 mod program;
 mod statement;
 
