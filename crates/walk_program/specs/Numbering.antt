@@ -10,9 +10,10 @@ use Rattle.walk_program.specs.declared.plain.Limit.{Limit}
 use Rattle.walk_program.specs.declared.plain.Plain.{Plain}
 use Rattle.walk_program.specs.declared.plain.Subscripts.{Subscripts}
 use Rattle.walk_program.specs.declared.program.Argument.{Argument}
+use Rattle.walk_program.specs.declared.statement.Counts.{Counts}
 use Rattle.walk_program.specs.declared.statement.Statement.{Statement}
 use Rattle.walk_program.specs.declared.numbering.Key.{Key}
-use Rattle.walk_program.specs.Counted.{Counted}
+use Rattle.walk_program.specs.Counted.{CountsOf, Counted}
 use Rattle.walk_program.specs.Names.{name_at, all_listed, uses_in_plain, uses_in}
 use Rattle.walk_program.specs.Numbered.{Operands, LimitFits, StrideFits, PlainFits, Numbered}
 use Rattle.walk_program.specs.Reading.{names_at, access_of, bound_of, stride_of, plain_of, nest_of, arguments_of}
@@ -100,6 +101,22 @@ pub record IsTree (statements : Tree) (n : Nest) (t : Table) : Type 0 where
 -- statements are numbered
 abbrev pub NumbersNest : Tree → Nest → Table → Table → Type 0
 NumbersNest statements n = Numbers (IsTree statements n) (uses_in n) (width_in n)
+
+-- a region is numbered, with what is allocated in it
+pub record IsRegion (statements : List Statement) (inside : Counts) (n : Nest) (t : Table) : Type 0 where
+  pub stands : IsTree (tree statements) n t
+  pub counts : CountsOf n inside
+
+abbrev pub NumbersRegion : List Statement → Counts → Nest → Table → Table → Type 0
+NumbersRegion statements inside n = Numbers (IsRegion statements inside n) (uses_in n) (width_in n)
+
+-- whatever the names are, where the counts inside a statement are right these are the statement's own
+abbrev pub AreCounts : Statement → Counts → Type 0
+AreCounts s counts = (names : List Name) → Counted names (tree (s ∷ [])) → CountsOf (nest_of names (tree (s ∷ []))) counts
+
+-- likewise of a plain statement
+abbrev pub ArePlainCounts : Plain → Counts → Type 0
+ArePlainCounts p counts = (names : List Name) → CountsOf (named.Does 0 (plain_of names p) named.Nothing) counts
 
 abbrev pub ArgumentsFit : ℕ → ℕ → List Argument → Type 0
 ArgumentsFit count width arguments = All (λ (a : Argument). a.name < count) arguments
