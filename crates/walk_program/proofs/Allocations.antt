@@ -1,5 +1,5 @@
 -- What is allocated in the text of a statement.
-use Rattle.std.proofs.Common.{◌≡◌, ◌+◌, ◌*◌, ◌<◌, ◌≤◌, ℕ, ℤ, List, [], ◌∷◌, length, get_or, drop, refl, sym, ap, subst, ◌∙◌, arith}
+use Rattle.std.proofs.Common.{◌≡◌, ◌+◌, ◌*◌, ◌<◌, ◌≤◌, ℕ, ℤ, List, length, get_or, drop, refl, sym, ap, subst, ◌∙◌, arith}
 use Rattle.std.specs.Prelude.{Option, Some, None, Result, Ok, Err, IfOk, nat_eq, if◌then◌else◌}
 use Rattle.std.specs.declared.alloc.AllocError.{AllocError}
 use Rattle.std.proofs.lemmas.List.{drop_more, drop_all}
@@ -16,7 +16,7 @@ use Rattle.walk_program.specs.declared.statement.Statement.{Statement}
 use Rattle.walk_program.specs.Counted.{CountsOf, Counted}
 use Rattle.walk_program.specs.Numbering.{AreCounts, ArePlainCounts}
 use Rattle.walk_program.specs.Reading.{plain_of, nest_of}
-use Rattle.walk_program.specs.Tree.{Nothing, tree}
+use Rattle.walk_program.specs.Tree.{Nothing}
 use Rattle.walk_program.proofs.Sequences.{tree_one}
 use Rattle.walk_program.proofs.Trees as trees
 

@@ -1,7 +1,7 @@
 -- What is numbered part by part is numbered as a whole.
 use Rattle.std.proofs.Common.{◌≡◌, ◌<◌, ℕ, ℤ, List, [], ◌∷◌, ◌++◌, length, refl, sym, ap, subst, ◌∙◌, arith}
-use Rattle.std.specs.Prelude.{max, All, Option, Some, None, Result, Ok, Err, IfOk}
-use Rattle.std.proofs.lemmas.List.{map-append, length-map, append_assoc, append-nil}
+use Rattle.std.specs.Prelude.{max, Option, Some, None, Result, Ok, Err, IfOk}
+use Rattle.std.proofs.lemmas.List.{map-append, length-map, append-nil}
 use Rattle.std.proofs.lemmas.List.Elements.{All-push}
 use Rattle.std.specs.declared.alloc.AllocError.{AllocError}
 use Rattle.int_ops.specs.declared.operation.CastKind.{CastKind}
@@ -22,8 +22,8 @@ use Rattle.walk_program.specs.declared.plain.Limit.{Limit}
 use Rattle.walk_program.specs.Names.{name_at, uses_in_bound, uses_in_stride}
 use Rattle.walk_program.specs.Widths.{width_in_bound}
 use Rattle.walk_program.specs.Numbering.{Table, Grows, Numbers, IsNumber, AreNumbers, AreOperands, IsSubscripts, IsLimit, IsStride, IsPlain, NumbersPlain}
-use Rattle.walk_program.specs.Reading.{names_at, plain_of}
-use Rattle.walk_program.proofs.Tables.{both, becomes, nothing, grows-trans, numbers_grow}
+use Rattle.walk_program.specs.Reading.{plain_of}
+use Rattle.walk_program.proofs.Tables.{both, becomes, nothing, grows-trans}
 
 -- a result that is a number
 pub ok_at : (r : Result ℕ AllocError) (P : ℕ → Type 0) (k : ℕ) → IfOk r (λ n. n ≡ k) → P k → IfOk r P

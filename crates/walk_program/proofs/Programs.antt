@@ -1,16 +1,14 @@
 -- What is so of a program whose arguments and whose body are numbered one after the other.
-use Rattle.std.proofs.Common.{◌≡◌, ◌<◌, ℕ, List, [], ◌∷◌, ◌++◌, length, map, refl, sym, ap, subst, ◌∙◌, arith}
-use Rattle.std.specs.Prelude.{max, All}
+use Rattle.std.proofs.Common.{◌≡◌, ◌<◌, ℕ, List, [], ◌∷◌, ◌++◌, length, refl, sym, ap, subst, ◌∙◌, arith}
+use Rattle.std.specs.Prelude.{max}
 use Rattle.std.proofs.lemmas.List.{map-append}
 use Rattle.std.proofs.lemmas.List.Elements.{All-push}
 use Rattle.affine_ast.specs.declared.module.Arg.{Arg}
 use Rattle.affine_ast.specs.declared.module.ArgKind.{ArgKind}
 use Rattle.affine_ast.specs.declared.module.Module.{Module}
-use Rattle.affine_ast.specs.declared.name.Name.{Name}
 use Rattle.affine_ast.specs.declared.stmt.Stmt.{Stmt}
 use Rattle.affine_ast.specs.Nest.{nest}
 use Rattle.walk_program.specs.declared.program.Argument.{Argument}
-use Rattle.walk_program.specs.declared.program.Program.{Program}
 use Rattle.walk_program.specs.declared.statement.Counts.{Counts}
 use Rattle.walk_program.specs.declared.statement.Statement.{Statement}
 use Rattle.walk_program.specs.Counted.{CountsOf}

@@ -1,10 +1,8 @@
 -- Statements and regions that are numbered one after the other.
-use Rattle.std.proofs.Common.{◌≡◌, ◌<◌, ◌+◌, ◌*◌, ℕ, ℤ, Bool, true, false, List, [], ◌∷◌, ◌++◌, length, map, refl, sym, ap, subst, ◌∙◌, arith}
-use Rattle.std.specs.Prelude.{max, Option, Some, None, Result, Ok, Err, IfOk, All}
-use Rattle.std.proofs.lemmas.List.{append_assoc, append-nil, map-append}
-use Rattle.std.proofs.lemmas.List.Elements.{All-push}
+use Rattle.std.proofs.Common.{◌≡◌, ◌+◌, ℕ, ℤ, true, false, List, [], ◌∷◌, ◌++◌, length, refl, sym, ap, subst, ◌∙◌, arith}
+use Rattle.std.specs.Prelude.{max, Option, Some, None, Result, Ok, Err, IfOk}
+use Rattle.std.proofs.lemmas.List.{append_assoc, append-nil}
 use Rattle.affine_expr.specs.declared.map.Set.{Set}
-use Rattle.affine_ast.specs.declared.module.Arg.{Arg}
 use Rattle.affine_ast.specs.declared.name.Name.{Name}
 use Rattle.affine_ast.specs.declared.types.Bound.{Bound}
 use Rattle.affine_ast.specs.declared.stmt.Stmt.{Stmt}
@@ -16,18 +14,17 @@ use Rattle.affine_ast.proofs.Nests.{nest-nil, nest-cons, nest-append, put-For, p
 use Rattle.direct_meaning.specs.Actions.{fasts_in, tags_in}
 use Rattle.walk_program.specs.declared.plain.Limit.{Limit}
 use Rattle.walk_program.specs.declared.plain.Plain.{Plain}
-use Rattle.walk_program.specs.declared.program.Argument.{Argument}
 use Rattle.walk_program.specs.declared.statement.Counts.{Counts}
 use Rattle.walk_program.specs.declared.statement.Form as form
 use Rattle.walk_program.specs.declared.statement.Statement.{Statement}
 use Rattle.walk_program.specs.Counted.{CountsOf, Counted}
-use Rattle.walk_program.specs.Names.{name_at, uses_in_bound, uses_in_plain, uses_in, uses_of_arguments}
+use Rattle.walk_program.specs.Names.{name_at, uses_in_bound, uses_in_plain, uses_in}
 use Rattle.walk_program.specs.Numbered.{Numbered}
-use Rattle.walk_program.specs.Numbering.{Table, Numbers, Stands, IsNumber, AreOperands, IsLimit, IsTree, IsRegion, NumbersPlain, NumbersNest, NumbersRegion, AreCounts, AreArguments}
-use Rattle.walk_program.specs.Reading.{names_at, bound_of, plain_of, nest_of, argument_of}
+use Rattle.walk_program.specs.Numbering.{Table, Numbers, IsNumber, AreOperands, IsLimit, IsTree, IsRegion, NumbersPlain, NumbersNest, NumbersRegion, AreCounts}
+use Rattle.walk_program.specs.Reading.{names_at, bound_of, plain_of, nest_of}
 use Rattle.walk_program.specs.Tree.{Tree, Nothing, Loop, Branch, Does, followed_by, put_form, tree}
 use Rattle.walk_program.specs.Widths.{width_in_bound, width_in_plain, width_in}
-use Rattle.walk_program.proofs.Tables.{both, becomes, nothing, numbers_now}
+use Rattle.walk_program.proofs.Tables.{both, becomes, nothing}
 use Rattle.walk_program.proofs.Trees as trees
 use Rattle.walk_program.proofs.Trees.{tree-nil, tree-cons, tree-append}
 

@@ -1,6 +1,6 @@
 -- What a statement becomes among the statements of a list, one equation for each kind.
 use Rattle.std.proofs.Common.{◌≡◌, ℕ, ℤ, true, false, List, [], ◌∷◌, ◌++◌, map, refl, sym, ap, ◌∙◌}
-use Rattle.std.specs.Prelude.{Option, Some, None}
+use Rattle.std.specs.Prelude.{Some, None}
 use Rattle.affine_expr.specs.declared.map.Set.{Set}
 use Rattle.walk_program.specs.declared.plain.Limit.{Limit}
 use Rattle.walk_program.specs.declared.plain.Plain.{Plain}

@@ -4,7 +4,6 @@ use Rattle.walk_program.specs.declared.plain.Limit.{Limit}
 use Rattle.walk_program.specs.declared.plain.Limit.TheVariants as limit
 use Rattle.walk_program.specs.declared.plain.Plain.{Plain}
 use Rattle.walk_program.specs.declared.plain.Plain.TheVariants.{Value, Load, Store, RawLoad, RawStore, Constant, Binary, Cast, Alloc, Dealloc, Start, Wait, Return}
-use Rattle.walk_program.specs.declared.plain.Subscripts.{Subscripts}
 use Rattle.walk_program.specs.Tree.{Tree, Nothing, Loop, Branch, Does}
 
 -- numbers of operands: each is below the count of names, and they are at most so many

@@ -1,5 +1,5 @@
 -- How many operands the longest list of them has.
-use Rattle.std.specs.Prelude.{ℕ, max, List, length}
+use Rattle.std.specs.Prelude.{ℕ, max, length}
 use Rattle.affine_ast.specs.declared.types.Bound.{Bound}
 use Rattle.affine_ast.specs.declared.types.Bound.TheVariants as bound
 use Rattle.affine_ast.specs.Nest.{Plain, Nest, Nothing, Loop, Branch, Does, Value, Load, Store, RawLoad, RawStore, Constant, Binary, Cast, Alloc, Dealloc, Start, Wait, Return}

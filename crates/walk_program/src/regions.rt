@@ -147,19 +147,13 @@ fn number_statement<'a>(
             memref,
             at,
             ty,
-        } => Ok(does(
-            line,
-            number_load(numbering, alloc, result, memref, at, ty)?,
-        )),
+        } => Ok(does(line, number_load(numbering, alloc, result, memref, at, ty)?)),
         What::Store {
             value,
             memref,
             at,
             ty,
-        } => Ok(does(
-            line,
-            number_store(numbering, alloc, value, memref, at, ty)?,
-        )),
+        } => Ok(does(line, number_store(numbering, alloc, value, memref, at, ty)?)),
         What::RawLoad {
             result,
             memref,
@@ -227,10 +221,7 @@ fn number_statement<'a>(
             tag_at,
             count,
             ty,
-        } => Ok(does(
-            line,
-            number_wait(numbering, alloc, tag, tag_at, count, ty)?,
-        )),
+        } => Ok(does(line, number_wait(numbering, alloc, tag, tag_at, count, ty)?)),
         What::Return => Ok(does(line, Plain::Return)),
     }
 }

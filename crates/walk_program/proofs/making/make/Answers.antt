@@ -1,5 +1,4 @@
-use Rattle.std.proofs.Common.{◌≡◌, ◌∙◌, sym, ap, subst, List, ℕ}
-use Rattle.affine_ast.specs.declared.name.Name.{Name}
+use Rattle.std.proofs.Common.{◌∙◌, sym, ap, subst}
 use Rattle.walk_program.specs.Reading.{arguments_of}
 use Rattle.walk_program.specs.WellMade.{WellMade}
 use Rattle.walk_program.proofs.Programs.{program_names, program_arguments, program_made}

@@ -4,7 +4,7 @@ use Rattle.affine_ast.specs.declared.stmt.What as what
 use Rattle.affine_ast.specs.Nest as named
 use Rattle.affine_ast.specs.Nest.{nest}
 use Rattle.affine_ast.proofs.Nests.{put-Value, put-Load, put-Store, put-RawLoad, put-RawStore, put-Constant, put-Binary, put-Cast, put-Alloc, put-Dealloc, put-Start, put-Wait, put-Return}
-use Rattle.walk_program.specs.Numbering.{Numbers, AreOperands, NumbersRegion, NumbersNest}
+use Rattle.walk_program.specs.Numbering.{NumbersRegion, NumbersNest}
 use Rattle.walk_program.specs.Tree.{tree}
 use Rattle.walk_program.proofs.Parts.{plain-Return}
 use Rattle.walk_program.proofs.Sequences.{ok_more, nest_one, numbers_does, numbers_loop, numbers_condition, numbers_choice, loop_arm, condition_arm, choice_arm, region-push, no_region, region_at}

@@ -1,4 +1,4 @@
-use Rattle.walk_program.proofs.Parts.{limit_arm, limit-Value, limit-Map}
+use Rattle.walk_program.proofs.Parts.{limit_arm, limit-Map}
 use Rattle.walk_program.proofs.numbering.Numbering.limit.Goals as goal
 
 pub returns-in_ok-subscripts-in-Map : goal.returns-in_ok-subscripts-in-Map

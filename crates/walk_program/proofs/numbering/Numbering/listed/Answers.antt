@@ -1,7 +1,7 @@
-use Rattle.std.proofs.Common.{take, get_or, ◌∙◌, sym, ap, subst, ◌+◌, ◌++◌, [], ◌∷◌}
+use Rattle.std.proofs.Common.{take, ◌∙◌, sym, ap, subst, ◌+◌, ◌++◌, [], ◌∷◌}
 use Rattle.std.proofs.lemmas.List.{take_more}
 use Rattle.walk_program.specs.Numbering.{Numbers, AreNumbers}
-use Rattle.walk_program.proofs.Parts.{names-push, no_names}
+use Rattle.walk_program.proofs.Parts.{names-push}
 use Rattle.walk_program.proofs.numbering.Numbering.listed.Goals as goal
 
 pub loop-name-preserved : goal.loop-name-preserved
