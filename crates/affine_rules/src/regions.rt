@@ -33,12 +33,7 @@ fn bound_stands<'a>(names: &Names<'a>, bound: &'a Bound) -> bool
     }
 }
 
-fn bounds_pure(
-    alloc: Global,
-    lower: &Bound,
-    upper: &Bound,
-    step: i64,
-) -> Result<bool, AllocError>
+fn bounds_pure(alloc: Global, lower: &Bound, upper: &Bound, step: i64) -> Result<bool, AllocError>
     ensures value { IfOk result (λ pure. pure ≡ (bound_pure lower.now && (bound_pure upper.now && step_positive step))) }
     ensures parts { IfOk result (λ pure. pure ≡ true → (bound_pure lower.now ≡ true) × (bound_pure upper.now ≡ true)) }
 {

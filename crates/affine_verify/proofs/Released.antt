@@ -1,6 +1,6 @@
 -- Deallocs of a statement and of what follows, and the names of both.
 use Rattle.std.proofs.Common.{◌≡◌, ℕ, ℤ, zero, suc, ◌+◌, ◌-◌, ◌<◌, ◌≤◌, Bool, true, false, List, [], ◌∷◌, ◌++◌, length, get_or, drop, reverse, refl, sym, ap, ◌∙◌, arith}
-use Rattle.std.specs.Prelude.{Option, Some, None, Result, Ok, Err, OnOk, ◌||◌, ◌&&◌, not, nat_lt, nat_eq, if◌then◌else◌}
+use Rattle.std.specs.Prelude.{Some, None, Result, Ok, Err, OnOk, ◌||◌, ◌&&◌, not, nat_lt, nat_eq, if◌then◌else◌}
 use Rattle.std.proofs.lemmas.Bool.Decides.{nat_tests}
 use Rattle.std.proofs.lemmas.List.{drop_more, drop_all, reverse-append}
 use Rattle.affine_expr.specs.declared.map.Set.{Set}
@@ -187,9 +187,9 @@ pub lists_own : (d e : Deallocs) (n : Name) (w : What) (line : ℕ) (rest : Nest
 lists_own d e n w line rest plain is own more lists = record {
   own = λ m. own m ∙ ap (λ b. b || same_name n m) (lists.own m) ∙ own_more (same_name n m) (own_deallocs m rest) ∙ ap (nat_lt 0) (sym (own_count m));
   more = λ m. more m
-    ∙ (λ i. lists.more m i || (same_and (names_of d.own.keys) n m ∙ ap (λ b. b && same_name n m) (lists.own m)) i)
-    ∙ more_own (same_name n m) (own_deallocs m rest) (deallocs m rest) (own_among m rest)
-    ∙ (λ i. nat_lt 1 (sym (own_count m) i) || nat_lt (sym (own_count m) i) (sym (all_count m) i));
+      ∙ (λ i. lists.more m i || (same_and (names_of d.own.keys) n m ∙ ap (λ b. b && same_name n m) (lists.own m)) i)
+      ∙ more_own (same_name n m) (own_deallocs m rest) (deallocs m rest) (own_among m rest)
+      ∙ (λ i. nat_lt 1 (sym (own_count m) i) || nat_lt (sym (own_count m) i) (sym (all_count m) i));
 }
   where
     own_count : (m : Name) → own_deallocs m (put_what w line rest) ≡ (if same_name n m then 1 else 0) + own_deallocs m rest
@@ -204,7 +204,7 @@ pub lists_inside : (d e : Deallocs) (w : What) (line : ℕ) (rest : Nest) → ((
 lists_inside d e w line rest is own more lists = record {
   own = λ m. own m ∙ lists.own m ∙ ap (nat_lt 0) (sym (own_count m));
   more = λ m. more m ∙ ap (λ b. b || nat_lt 0 (deallocs_in m w)) (lists.more m) ∙ more_inside (own_deallocs m rest) (deallocs m rest) (deallocs_in m w) (own_among m rest)
-    ∙ (λ i. nat_lt 1 (sym (own_count m) i) || nat_lt (sym (own_count m) i) (sym (all_step m w line rest) i));
+      ∙ (λ i. nat_lt 1 (sym (own_count m) i) || nat_lt (sym (own_count m) i) (sym (all_step m w line rest) i));
 }
   where
     own_count : (m : Name) → own_deallocs m (put_what w line rest) ≡ own_deallocs m rest

@@ -13,9 +13,8 @@ use crate::totals::{allocation_fits, with_allocation};
 use crate::values::picked;
 use affine_ast::{Access, MemrefType, Name, Pick, Scalar};
 use affine_rules::{
-    Binding, Scoped, define, is_in, is_released, release, rule_of_binary,
-    rule_of_cast, rule_of_constant, rule_of_dealloc, rule_of_load, rule_of_raw_load, rule_of_value,
-    text_rule,
+    Binding, Scoped, define, is_in, is_released, release, rule_of_binary, rule_of_cast,
+    rule_of_constant, rule_of_dealloc, rule_of_load, rule_of_raw_load, rule_of_value, text_rule,
 };
 use int_ops::{CastKind, Op};
 use shape_rules::allocates_well;
@@ -151,12 +150,7 @@ pub(crate) fn cast_stmt<'a>(
 
 /// The lowest rule that an allocation breaks, which is released exactly once or not.
 #[tactic(auto, unfolding(affine_ast::specs::Validity::rule_of_plain))]
-fn rule_of_alloc<'a>(
-    scoped: &Scoped<'a>,
-    into: &'a Name,
-    ty: &MemrefType,
-    once: bool,
-) -> Option<u8>
+fn rule_of_alloc<'a>(scoped: &Scoped<'a>, into: &'a Name, ty: &MemrefType, once: bool) -> Option<u8>
     ensures { (rest : Nest) → once ≡ is_released_once into.now rest → result ≡ rule_of_plain (around_of scoped.now) (plain.Alloc into.now ty.now) rest }
 {
     if is_in(&scoped.names, into) {

@@ -12,7 +12,6 @@ mod shapes;
 
 pub use pure::{access_pure, bound_pure, set_pure};
 pub use shapes::{
-    allocates_well, bits, bound_fits, casts_between, constant_fits, elements, is_loadable,
-    map_fits, results_fit, same_element, same_scalar, same_type, set_fits, shape_within,
-    subscripts_fit,
+    allocates_well, bound_fits, casts_between, constant_fits, elements, is_loadable, map_fits,
+    results_fit, same_element, same_scalar, same_type, set_fits, shape_within, subscripts_fit,
 };

@@ -1,4 +1,4 @@
-use Rattle.std.proofs.Common.{◌≡◌, ap, sym, ◌∙◌, arith, ◌+◌}
+use Rattle.std.proofs.Common.{ap, sym, ◌∙◌, arith, ◌+◌}
 use Rattle.std.specs.Prelude.{◌||◌, nat_lt}
 use Rattle.std.proofs.lemmas.Result.{IfOk-weaker}
 use Rattle.affine_ast.specs.declared.stmt.What as what

@@ -1,4 +1,4 @@
-use Rattle.std.proofs.Common.{◌≡◌, ap, sym, ◌∙◌}
+use Rattle.std.proofs.Common.{ap, sym, ◌∙◌}
 use Rattle.affine_rules.specs.Scoped.{names_of}
 use Rattle.affine_verify.proofs.Released.{put_is_or, kept_is_or}
 use Rattle.affine_verify.proofs.release.note.Goals as goal

@@ -1,7 +1,6 @@
-use Rattle.std.proofs.Common.{◌≡◌, ℕ, ◌+◌, ◌-◌, drop, length, reverse, arith, sym, ap, ◌∙◌}
+use Rattle.std.proofs.Common.{◌≡◌, ℕ, ◌-◌, drop, length, reverse, arith, ap, ◌∙◌}
 use Rattle.std.proofs.lemmas.List.{reverse-reverse}
-use Rattle.affine_ast.specs.Nest.{nest}
-use Rattle.affine_verify.specs.Deallocs.{Lists, once_each}
+use Rattle.affine_verify.specs.Deallocs.{once_each}
 use Rattle.affine_verify.proofs.Released.{none_left, each_none, lists_more, once_more}
 use Rattle.affine_verify.proofs.release.released_once.Goals as goal
 
@@ -15,7 +14,7 @@ pub loop-done-preserved : goal.loop-done-preserved
 loop-done-preserved c = record {
   lists = lists_more c.loop-done.deallocs c.add.new.self c.args.stmts.now c.loop-done.done _ c.index-stmts-length.result (omega arith) (omega arith) c.index-stmts-length.is c.in_ok-add.ensures c.loop-done.invariant.lists;
   once = once_more c.args.stmts.now c.loop-done.done _ c.index-stmts-length.result c.releases.result c.loop-done.once.items c.push.new.self.items (omega arith) (omega arith) c.index-stmts-length.is
-    (c.releases.ensures _ c.loop-done.invariant.lists) c.loop-done.invariant.once c.in_ok-push.ensures.items;
+      (c.releases.ensures _ c.loop-done.invariant.lists) c.loop-done.invariant.once c.in_ok-push.ensures.items;
 }
 
 pub returns : goal.returns

@@ -1,7 +1,7 @@
 use Rattle.std.proofs.Common.{get_or, ◌∙◌, ap, sym, take, length, arith, rules, w64, SFits}
 use Rattle.std.proofs.lemmas.Int.{to_z-of_z}
 use Rattle.affine_ast.specs.declared.stmt.What as what
-use Rattle.affine_ast.specs.Nest.{nest, put_what}
+use Rattle.affine_ast.specs.Nest.{nest}
 use Rattle.affine_ast.specs.Validity.{judged, rule_of_condition, told, then_told}
 use Rattle.affine_ast.specs.Scope.{in_condition}
 use Rattle.affine_rules.specs.Scoped.{around_of}

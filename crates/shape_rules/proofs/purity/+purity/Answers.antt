@@ -1,5 +1,5 @@
-use Rattle.std.proofs.Common.{◌≡◌, sym, ap, subst, ◌∙◌, IfOk}
-use Rattle.affine_expr.specs.Pure.{Purity, purity, purity_step}
+use Rattle.std.proofs.Common.{sym, ap, subst, ◌∙◌, IfOk}
+use Rattle.affine_expr.specs.Pure.{purity, purity_step}
 use Rattle.affine_expr.specs.declared.expr.Expr.TheOpen.{Expr-F}
 use Rattle.shape_rules.specs.Purities.{Finds}
 use Rattle.shape_rules.proofs.PurityLaws.{purity-Add, purity-Sub, purity-Mul, purity-FloorDiv, purity-CeilDiv, purity-Mod}

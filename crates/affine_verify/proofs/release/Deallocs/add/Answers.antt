@@ -1,4 +1,4 @@
-use Rattle.std.proofs.Common.{◌≡◌, refl, sym, ◌∙◌}
+use Rattle.std.proofs.Common.{refl}
 use Rattle.std.proofs.lemmas.Result.{IfOk-weaker}
 use Rattle.affine_verify.proofs.Released.{lists_own, lists_inside, lists_same, both_ok}
 use Rattle.affine_verify.proofs.release.Deallocs.add.Goals as goal
