@@ -12,13 +12,13 @@ use crate::lookup::{
     is_memref_of, is_of, is_value, operands_stand,
 };
 use crate::scope::{Scoped, is_released};
-use crate::shapes::{
-    access_pure, allocates_well, bound_fits, bound_pure, casts_between, constant_fits, is_loadable,
-    map_fits, results_fit, set_fits, set_pure, shape_within, subscripts_fit,
-};
 use affine_ast::{Access, Bound, MemrefType, Name, Pick, Scalar};
 use affine_expr::Set;
 use int_ops::{CastKind, Op};
+use shape_rules::{
+    access_pure, allocates_well, bound_fits, bound_pure, casts_between, constant_fits, is_loadable,
+    map_fits, results_fit, set_fits, set_pure, shape_within, subscripts_fit,
+};
 use std::alloc::{AllocError, Global};
 
 pub fn place_in<'a>(names: &Names<'a>, memref: &'a Name, at: &'a Access) -> bool
@@ -69,7 +69,7 @@ pub fn rule_of_value<'a>(
     if !(map_fits(at) && results_fit(pick, at)) {
         return Ok(Some(7));
     }
-    if !access_pure(at)? {
+    if !access_pure(alloc, at)? {
         return Ok(Some(8));
     }
     if !access_bounded(alloc, names, at)? {
@@ -105,7 +105,7 @@ pub fn rule_of_load<'a>(
     if !subscripts_fit(at, ty) {
         return Ok(Some(7));
     }
-    if !access_pure(at)? {
+    if !access_pure(alloc, at)? {
         return Ok(Some(8));
     }
     if !access_bounded(alloc, names, at)? {
@@ -141,7 +141,7 @@ pub fn rule_of_store<'a>(
     if !subscripts_fit(at, ty) {
         return Ok(Some(7));
     }
-    if !access_pure(at)? {
+    if !access_pure(alloc, at)? {
         return Ok(Some(8));
     }
     if !access_bounded(alloc, names, at)? {
@@ -331,7 +331,7 @@ pub fn rule_of_wait<'a>(
     if !subscripts_fit(at, ty) {
         return Ok(Some(7));
     }
-    if !access_pure(at)? {
+    if !access_pure(alloc, at)? {
         return Ok(Some(8));
     }
     if !access_bounded(alloc, names, at)? {

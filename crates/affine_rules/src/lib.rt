@@ -2,16 +2,14 @@
 //!
 //! `Scoped` is what stands round a statement: a table of the names in scope, the loops and conditions round it, and the totals so
 //! far. Each function is proved equal to a definition of `affine_ast`, `specs/Rules` or `specs/Validity`. The crate stands on
-//! `affine_ast`, `affine_expr`, `num_row` and `indexmap`.
+//! `shape_rules`, which has the rules that don't ask what stands round, on `affine_ast`, `affine_expr` and `indexmap`.
 #![tactic(auto)]
 
 mod bounded;
 mod kinds;
 mod lookup;
-mod purity;
 mod regions;
 mod scope;
-mod shapes;
 mod transfers;
 
 pub use bounded::{
@@ -25,5 +23,4 @@ pub use kinds::{
 pub use lookup::{Names, is_in, is_small};
 pub use regions::{rule_of_condition, rule_of_loop};
 pub use scope::{Binding, Key, Scoped, Totals, define, found, is_released, release};
-pub use shapes::{allocates_well, elements, shape_within};
 pub use transfers::rule_of_start;

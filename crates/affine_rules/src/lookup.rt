@@ -1,13 +1,13 @@
 // What the rules ask of names.
 ghost use Rattle.std.specs.Prelude.{◌≡◌, false, true, take, drop, Some, None};
 ghost use Rattle.std.specs.List.{list_all};
-ghost use Rattle.affine_ast.specs.Rules.{is_in, are_in, may_be_dimension, may_be_symbol, is_memref, is_dimension, is_symbol, is_value, are_values, same_element, same_scalar, same_type, binding_is_memref_of, binding_is_scalar, is_memref_of, is_of, are_indexes, operands_stand, binding_is_small, is_small_dimension, is_allocation, is_allocated, number_of_binding, constant_of, is_small};
-ghost use Rattle.affine_ast.specs.Sizes.{element_bits};
+ghost use Rattle.affine_ast.specs.Rules.{is_in, are_in, may_be_dimension, may_be_symbol, is_memref, is_dimension, is_symbol, is_value, are_values, binding_is_memref_of, binding_is_scalar, is_memref_of, is_of, are_indexes, operands_stand, binding_is_small, is_small_dimension, is_allocation, is_allocated, number_of_binding, constant_of, is_small};
 ghost use Rattle.affine_rules.specs.Scoped.{binding_of, scope_of};
 
 use crate::scope::{Binding, Key, found};
-use affine_ast::{Element, MemrefType, Name, Scalar};
+use affine_ast::{MemrefType, Name, Scalar};
 use indexmap::IndexMap;
+use shape_rules::{same_scalar, same_type};
 
 pub type Names<'a> = IndexMap<Key<'a>, Binding>;
 
@@ -144,44 +144,6 @@ pub fn is_small(value: i64) -> bool
     ensures { result ≡ is_small value }
 {
     -MOST <= value && value <= MOST
-}
-
-/// The bits of an element.
-pub fn bits(element: Element) -> u32
-    ensures { result ≡ element_bits element }
-{
-    match element {
-        Element::I8 => 8,
-        Element::I16 => 16,
-        Element::I32 => 32,
-        Element::I64 => 64,
-    }
-}
-
-pub fn same_element(left: Element, right: Element) -> bool
-    ensures { result ≡ same_element left right }
-{
-    bits(left) == bits(right)
-}
-
-pub fn same_scalar(left: Scalar, right: Scalar) -> bool
-    ensures { result ≡ same_scalar left right }
-{
-    match (left, right) {
-        (Scalar::Int(left), Scalar::Int(right)) => same_element(left, right),
-        (Scalar::Index, Scalar::Index) => true,
-        (Scalar::Int(_), Scalar::Index) => false,
-        (Scalar::Index, Scalar::Int(_)) => false,
-    }
-}
-
-#[tactic(auto, unfolding(affine_ast::specs::Rules::same_type))]
-pub fn same_type(left: &MemrefType, right: &MemrefType) -> bool
-    ensures { result ≡ same_type left.now right.now }
-{
-    left.sizes.as_slice() == right.sizes.as_slice()
-        && same_element(left.element, right.element)
-        && left.space == right.space
 }
 
 #[tactic(auto, unfolding(affine_ast::specs::Rules::is_dimension), using(crate::proofs::Looked::found_at))]

@@ -8,9 +8,9 @@ use crate::bounded::{bound_bounded, set_bounded};
 use crate::kinds::{access_stands, text_rule};
 use crate::lookup::{Names, are_in, is_dimension, is_in, operands_stand};
 use crate::scope::Scoped;
-use crate::shapes::{bound_fits, bound_pure, set_fits, set_pure};
 use affine_ast::{Bound, Name};
 use affine_expr::Set;
+use shape_rules::{bound_fits, bound_pure, set_fits, set_pure};
 use std::alloc::{AllocError, Global};
 
 fn bound_in<'a>(names: &Names<'a>, bound: &'a Bound) -> bool
@@ -33,14 +33,14 @@ fn bound_stands<'a>(names: &Names<'a>, bound: &'a Bound) -> bool
     }
 }
 
-fn bounds_pure(lower: &Bound, upper: &Bound, step: i64) -> Result<bool, AllocError>
+fn bounds_pure(alloc: Global, lower: &Bound, upper: &Bound, step: i64) -> Result<bool, AllocError>
     ensures value { IfOk result (λ pure. pure ≡ (bound_pure lower.now && (bound_pure upper.now && step_positive step))) }
     ensures parts { IfOk result (λ pure. pure ≡ true → (bound_pure lower.now ≡ true) × (bound_pure upper.now ≡ true)) }
 {
-    if !bound_pure(lower)? {
+    if !bound_pure(alloc, lower)? {
         return Ok(false);
     }
-    if !bound_pure(upper)? {
+    if !bound_pure(alloc, upper)? {
         return Ok(false);
     }
     Ok(0 < step)
@@ -89,7 +89,7 @@ pub fn rule_of_loop<'a>(
     if !(bound_fits(lower) && bound_fits(upper)) {
         return Ok(Some(7));
     }
-    if !bounds_pure(lower, upper, step)? {
+    if !bounds_pure(alloc, lower, upper, step)? {
         return Ok(Some(8));
     }
     if !bounds_bounded(alloc, names, lower, upper)? {
@@ -118,7 +118,7 @@ pub fn rule_of_condition<'a>(
     if !set_fits(set, operands) {
         return Ok(Some(7));
     }
-    if !set_pure(set)? {
+    if !set_pure(alloc, set)? {
         return Ok(Some(8));
     }
     if !set_bounded(alloc, names, set, operands)? {

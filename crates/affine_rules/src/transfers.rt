@@ -8,10 +8,10 @@ ghost use Rattle.affine_rules.specs.Scoped.{around_of, scope_of};
 
 use crate::bounded::access_bounded;
 use crate::kinds::{access_stands, is_count, place_in, text_rule};
-use crate::lookup::{Names, constant_of, is_in, is_memref_of, is_value, same_element};
+use crate::lookup::{Names, constant_of, is_in, is_memref_of, is_value};
 use crate::scope::{Scoped, is_released};
-use crate::shapes::{access_pure, subscripts_fit};
 use affine_ast::{Access, MemrefType, Name};
+use shape_rules::{access_pure, same_element, subscripts_fit};
 use std::alloc::{AllocError, Global};
 
 type Stride = Option<(Name, Name)>;
@@ -95,17 +95,22 @@ fn ends_in_spaces(types: &[MemrefType; 3]) -> bool
         && tags.space == 2
 }
 
-fn ends_pure(from_at: &Access, to_at: &Access, tag_at: &Access) -> Result<bool, AllocError>
+fn ends_pure(
+    alloc: Global,
+    from_at: &Access,
+    to_at: &Access,
+    tag_at: &Access,
+) -> Result<bool, AllocError>
     ensures value { IfOk result (λ pure. pure ≡ (access_pure from_at.now && (access_pure to_at.now && access_pure tag_at.now))) }
     ensures parts { IfOk result (λ pure. pure ≡ true → (access_pure from_at.now ≡ true) × (access_pure to_at.now ≡ true) × (access_pure tag_at.now ≡ true)) }
 {
-    if !access_pure(from_at)? {
+    if !access_pure(alloc, from_at)? {
         return Ok(false);
     }
-    if !access_pure(to_at)? {
+    if !access_pure(alloc, to_at)? {
         return Ok(false);
     }
-    access_pure(tag_at)
+    access_pure(alloc, tag_at)
 }
 
 fn ends_bounded<'a>(
@@ -168,7 +173,7 @@ pub fn rule_of_start<'a>(
     if !ends_fit(from_at, to_at, tag_at, types) {
         return Ok(Some(7));
     }
-    if !ends_pure(from_at, to_at, tag_at)? {
+    if !ends_pure(alloc, from_at, to_at, tag_at)? {
         return Ok(Some(8));
     }
     if !ends_bounded(alloc, names, from_at, to_at, tag_at)? {

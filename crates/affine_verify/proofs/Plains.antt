@@ -211,3 +211,5 @@ pub region-If : (set : Set) (names : List Name) (first : List Stmt) (other : Opt
 unfolding is_region
 region-If set names first None = ap head_is_region (put-If 0 Nothing set names first)
 region-If set names first (Some other) = ap head_is_region (put-If-else 0 Nothing set names first other)
+
+pub ruleset regions = (region-For, region-If)

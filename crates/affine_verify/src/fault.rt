@@ -12,7 +12,7 @@ pub enum VerifyFault {
     /// breaks.
     #[error("invalid line {line} rule V{rule}")]
     Invalid { line: u32, rule: u8 },
-    /// Memory was wanting. A divisor without dimensions and symbols whose value is outside 128 bits counts as that.
+    /// Memory was wanting.
     #[error("out of memory")]
     Memory,
 }

@@ -1,23 +1,23 @@
 // Plain statements: the rule that one breaks, or what it puts in scope.
 ghost use Rattle.std.specs.Prelude.{◌≡◌, Some, None, IfOk, OnOk, true, false};
-ghost use Rattle.affine_ast.specs.Nest.{Nest, nest};
+ghost use Rattle.affine_ast.specs.Nest.{Nest};
 ghost use Rattle.affine_ast.specs.Nest as plain;
+ghost use Rattle.affine_ast.specs.Rules.{is_released_once};
 ghost use Rattle.affine_ast.specs.Scope.{binding_of_constant};
 ghost use Rattle.affine_ast.specs.Validity.{rule_of_plain};
 ghost use Rattle.affine_rules.specs.Scoped.{around_of, binding_of};
 ghost use Rattle.affine_verify.specs.Comes.{Plainly, Defines};
 
 use crate::fault::{VerifyFault, judged};
-use crate::release::is_released_once;
 use crate::totals::{allocation_fits, with_allocation};
 use crate::values::picked;
-use affine_ast::{Access, MemrefType, Name, Pick, Scalar, Stmt};
+use affine_ast::{Access, MemrefType, Name, Pick, Scalar};
 use affine_rules::{
-    Binding, Scoped, allocates_well, define, is_in, is_released, release, rule_of_binary,
-    rule_of_cast, rule_of_constant, rule_of_dealloc, rule_of_load, rule_of_raw_load, rule_of_value,
-    text_rule,
+    Binding, Scoped, define, is_in, is_released, release, rule_of_binary, rule_of_cast,
+    rule_of_constant, rule_of_dealloc, rule_of_load, rule_of_raw_load, rule_of_value, text_rule,
 };
 use int_ops::{CastKind, Op};
+use shape_rules::allocates_well;
 use std::alloc::{AllocError, Global};
 
 /// Puts a name in scope behind a statement that breaks no rule.
@@ -148,20 +148,15 @@ pub(crate) fn cast_stmt<'a>(
     defined(line, rule, into, Binding::Data(to), scoped)
 }
 
-/// The lowest rule that an allocation breaks.
+/// The lowest rule that an allocation breaks, which is released exactly once or not.
 #[tactic(auto, unfolding(affine_ast::specs::Validity::rule_of_plain))]
-fn rule_of_alloc<'a>(
-    scoped: &Scoped<'a>,
-    into: &'a Name,
-    ty: &MemrefType,
-    rest: &[Stmt],
-) -> Option<u8>
-    ensures { result ≡ rule_of_plain (around_of scoped.now) (plain.Alloc into.now ty.now) (nest rest.now) }
+fn rule_of_alloc<'a>(scoped: &Scoped<'a>, into: &'a Name, ty: &MemrefType, once: bool) -> Option<u8>
+    ensures { (rest : Nest) → once ≡ is_released_once into.now rest → result ≡ rule_of_plain (around_of scoped.now) (plain.Alloc into.now ty.now) rest }
 {
     if is_in(&scoped.names, into) {
         return Some(2);
     }
-    if !(allocates_well(ty) && is_released_once(into, rest)) {
+    if !(allocates_well(ty) && once) {
         return Some(10);
     }
     if !allocation_fits(scoped.totals, ty) {
@@ -175,12 +170,12 @@ pub(crate) fn alloc_stmt<'a>(
     line: u32,
     into: &'a Name,
     ty: &'a MemrefType,
-    rest: &'a [Stmt],
+    once: bool,
     scoped: &mut Scoped<'a>,
 ) -> Result<(), VerifyFault>
-    ensures { Plainly result line (plain.Alloc into.now ty.now) (nest rest.now) scoped.old scoped.new }
+    ensures { (rest : Nest) → once ≡ is_released_once into.now rest → Plainly result line (plain.Alloc into.now ty.now) rest scoped.old scoped.new }
 {
-    let rule = rule_of_alloc(scoped, into, ty, rest);
+    let rule = rule_of_alloc(scoped, into, ty, once);
     judged(line, rule)?;
     let totals = with_allocation(scoped.totals, ty);
     let copied = ty.copy(alloc)?;

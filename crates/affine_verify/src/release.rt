@@ -1,122 +1,194 @@
-// The deallocs of an allocation.
-ghost use Rattle.std.specs.Prelude.{◌≡◌, ◌≤◌, ◌+◌, min, ℕ, false};
-ghost use Rattle.affine_ast.specs.Nest.{Nest, nest, put_what};
-ghost use Rattle.affine_ast.specs.Rules.{is_dealloc_of, deallocs, own_deallocs, is_released_once};
-ghost use Rattle.affine_ast.specs.Names.{same_name};
+// Which allocations have exactly one dealloc in the rest of their region, and in the region itself. They are told from the end of
+// the region on, by the names of the deallocs behind, so that each statement is looked at once for each region round it.
+ghost use Rattle.std.specs.Prelude.{◌≡◌, ◌||◌, ◌&&◌, nat_lt, true, false, IfOk, OnOk};
+ghost use Rattle.affine_ast.specs.declared.name.Name.{Name};
+ghost use Rattle.affine_ast.specs.Names.{put, same_name};
+ghost use Rattle.affine_ast.specs.Nest.{Nest, Nothing, nest, put_what};
+ghost use Rattle.affine_ast.specs.Rules.{is_dealloc_of, deallocs, is_released_once};
+ghost use Rattle.affine_rules.specs.Scoped.{names_of};
+ghost use Rattle.affine_verify.specs.Deallocs.{once_of, once_each, deallocs_in, role_own, role_once, is_region_role, Lists};
 ghost use Rattle.affine_verify.specs.Plains.{plain_of, is_region};
 
 use affine_ast::{Name, Stmt, What};
+use affine_rules::{Key, is_released, release};
+use indexmap::IndexSet;
+use std::alloc::{AllocError, Global};
 
-/// A count that goes no further than two.
-fn counted(first: u32, second: u32) -> u32
-    requires first { first ≤ 2 }
-    requires second { second ≤ 2 }
-    ensures { result ≡ min (first + second) 2 }
-{
-    (first + second).min(2)
+/// What a statement is for the deallocs of allocations.
+#[derive(Clone, Copy)]
+pub(crate) enum Role<'a> {
+    Alloc(&'a Name),
+    Dealloc(&'a Name),
+    /// A loop or a condition.
+    Region,
+    Other,
 }
 
-fn names_same(one: &Name, other: &Name) -> bool
-    ensures { result ≡ same_name one.now other.now }
-{
-    one.is(other)
-}
-
-/// One for a dealloc of the name, and zero for every other statement.
-#[tactic(auto, using(crate::proofs::Plains::plains))]
-fn dealloc_of(what: &What, name: &Name) -> u32
-    ensures count { result ≡ is_dealloc_of name.now (plain_of what.now) }
-    ensures small { result ≤ 1 }
+#[tactic(auto, using(crate::proofs::Plains::plains, crate::proofs::Plains::regions))]
+fn role_of(what: &What) -> Role<'_>
+    ensures own { (m : Name) → is_dealloc_of m (plain_of what.now) ≡ role_own result m }
+    ensures once { (rest : Nest) → once_of (plain_of what.now) rest ≡ role_once result rest }
+    ensures region { is_region what.now ≡ is_region_role result }
 {
     match what {
-        What::Dealloc { memref, .. } => { if names_same(memref, name) { 1 } else { 0 } }
-        What::For { .. } => 0,
-        What::If { .. } => 0,
-        What::Value { .. } => 0,
-        What::Load { .. } => 0,
-        What::Store { .. } => 0,
-        What::RawLoad { .. } => 0,
-        What::RawStore { .. } => 0,
-        What::Constant { .. } => 0,
-        What::Binary { .. } => 0,
-        What::Cast { .. } => 0,
-        What::Alloc { .. } => 0,
-        What::Start { .. } => 0,
-        What::Wait { .. } => 0,
-        What::Return => 0,
+        What::Alloc { result, .. } => Role::Alloc(result),
+        What::Dealloc { memref, .. } => Role::Dealloc(memref),
+        What::For { .. } => Role::Region,
+        What::If { .. } => Role::Region,
+        What::Value { .. } => Role::Other,
+        What::Load { .. } => Role::Other,
+        What::Store { .. } => Role::Other,
+        What::RawLoad { .. } => Role::Other,
+        What::RawStore { .. } => Role::Other,
+        What::Constant { .. } => Role::Other,
+        What::Binary { .. } => Role::Other,
+        What::Cast { .. } => Role::Other,
+        What::Start { .. } => Role::Other,
+        What::Wait { .. } => Role::Other,
+        What::Return => Role::Other,
     }
 }
 
-/// The deallocs of the name in a statement without a region.
-#[tactic(auto, using(crate::proofs::Plains::plain_step))]
-fn in_plain(what: &What, name: &Name) -> u32
-    requires { is_region what.now ≡ false }
-    ensures count { (line : ℕ) → (rest : Nest) → deallocs name.now (put_what what.now line rest) ≡ result + deallocs name.now rest }
-    ensures small { result ≤ 1 }
+/// Notes a name, whether it is noted already or not.
+fn note<'a>(names: &mut IndexSet<Key<'a>>, name: &'a Name) -> Result<(), AllocError>
+    ensures { OnOk result ((m : Name) → names_of names.new.keys m ≡ (names_of names.old.keys m || same_name name.now m)) }
 {
-    dealloc_of(what, name)
+    if !is_released(names, name) {
+        release(names, name)?;
+    }
+    Ok(())
 }
 
-/// The deallocs of the name in a statement, at every depth, or two where they are more.
-#[cycle(deallocs)]
+/// Notes the name of a dealloc, and of no other statement without a region.
+fn note_plain<'a>(names: &mut IndexSet<Key<'a>>, what: &'a What) -> Result<(), AllocError>
+    requires { is_region what.now ≡ false }
+    ensures { OnOk result ((m : Name) → names_of names.new.keys m ≡ (names_of names.old.keys m || nat_lt 0 (deallocs_in m what.now))) }
+{
+    match role_of(what) {
+        Role::Dealloc(memref) => note(names, memref),
+        Role::Alloc(_) => Ok(()),
+        Role::Region => Ok(()),
+        Role::Other => Ok(()),
+    }
+}
+
+/// Notes the names of the deallocs in a statement, at every depth.
+#[cycle(noted)]
 #[tactic(auto, using(crate::proofs::Plains::plains))]
-fn in_stmt(stmt: &Stmt, name: &Name) -> u32
-    ensures count { (rest : Nest) → min (deallocs name.now (put_what stmt.now.what stmt.now.line rest)) 2 ≡ min (result + deallocs name.now rest) 2 }
-    ensures small { result ≤ 2 }
+fn note_stmt<'a>(names: &mut IndexSet<Key<'a>>, stmt: &'a Stmt) -> Result<(), AllocError>
+    ensures { OnOk result ((m : Name) → names_of names.new.keys m ≡ (names_of names.old.keys m || nat_lt 0 (deallocs_in m stmt.now.what))) }
 {
     match &stmt.what {
-        What::For { body, .. } => in_list(body.as_slice(), name),
+        What::For { body, .. } => note_list(names, body.as_slice()),
         What::If { first, other, .. } => {
-            let deallocs = in_list(first.as_slice(), name);
+            note_list(names, first.as_slice())?;
             match other {
-                None => deallocs,
-                Some(other) => counted(deallocs, in_list(other.as_slice(), name)),
+                None => Ok(()),
+                Some(other) => note_list(names, other.as_slice()),
             }
         }
-        What::Dealloc { .. } => in_plain(&stmt.what, name),
-        What::Value { .. } => in_plain(&stmt.what, name),
-        What::Load { .. } => in_plain(&stmt.what, name),
-        What::Store { .. } => in_plain(&stmt.what, name),
-        What::RawLoad { .. } => in_plain(&stmt.what, name),
-        What::RawStore { .. } => in_plain(&stmt.what, name),
-        What::Constant { .. } => in_plain(&stmt.what, name),
-        What::Binary { .. } => in_plain(&stmt.what, name),
-        What::Cast { .. } => in_plain(&stmt.what, name),
-        What::Alloc { .. } => in_plain(&stmt.what, name),
-        What::Start { .. } => in_plain(&stmt.what, name),
-        What::Wait { .. } => in_plain(&stmt.what, name),
-        What::Return => in_plain(&stmt.what, name),
+        What::Dealloc { .. } => note_plain(names, &stmt.what),
+        What::Value { .. } => note_plain(names, &stmt.what),
+        What::Load { .. } => note_plain(names, &stmt.what),
+        What::Store { .. } => note_plain(names, &stmt.what),
+        What::RawLoad { .. } => note_plain(names, &stmt.what),
+        What::RawStore { .. } => note_plain(names, &stmt.what),
+        What::Constant { .. } => note_plain(names, &stmt.what),
+        What::Binary { .. } => note_plain(names, &stmt.what),
+        What::Cast { .. } => note_plain(names, &stmt.what),
+        What::Alloc { .. } => note_plain(names, &stmt.what),
+        What::Start { .. } => note_plain(names, &stmt.what),
+        What::Wait { .. } => note_plain(names, &stmt.what),
+        What::Return => note_plain(names, &stmt.what),
     }
 }
 
-#[cycle(deallocs)]
-fn in_list(stmts: &[Stmt], name: &Name) -> u32
-    ensures count { result ≡ min (deallocs name.now (nest stmts.now)) 2 }
-    ensures small { result ≤ 2 }
+#[cycle(noted)]
+fn note_list<'a>(names: &mut IndexSet<Key<'a>>, stmts: &'a [Stmt]) -> Result<(), AllocError>
+    ensures { OnOk result ((m : Name) → names_of names.new.keys m ≡ (names_of names.old.keys m || nat_lt 0 (deallocs m (nest stmts.now)))) }
 {
-    let mut deallocs = 0;
     for stmt in stmts {
-        deallocs = counted(deallocs, in_stmt(stmt, name));
+        note_stmt(names, stmt)?;
     }
-    deallocs
+    Ok(())
 }
 
-/// The deallocs of the name in a region itself, or two where they are more.
-fn own(stmts: &[Stmt], name: &Name) -> u32
-    ensures count { result ≡ min (own_deallocs name.now (nest stmts.now)) 2 }
-    ensures small { result ≤ 2 }
-{
-    let mut deallocs = 0;
-    for stmt in stmts {
-        deallocs = counted(deallocs, dealloc_of(&stmt.what, name));
-    }
-    deallocs
+/// The names of the deallocs in the rest of a region.
+#[derive(Drop)]
+pub(crate) struct Deallocs<'a> {
+    /// Those that stand in the region itself.
+    own: IndexSet<Key<'a>>,
+    /// Those with a second dealloc in the region itself, or one further in.
+    more: IndexSet<Key<'a>>,
 }
 
-/// Whether there is exactly one dealloc in the rest of the region, and it stands in the region itself.
-#[tactic(auto, unfolding(affine_ast::specs::Rules::is_released_once))]
-pub(crate) fn is_released_once(name: &Name, rest: &[Stmt]) -> bool
-    ensures { result ≡ is_released_once name.now (nest rest.now) }
+impl<'a> Deallocs<'a> {
+    /// Nothing is left of a region.
+    fn new(alloc: Global) -> Deallocs<'a>
+        ensures { Lists result Nothing }
+    {
+        Deallocs {
+            own: IndexSet::new(alloc),
+            more: IndexSet::new(alloc),
+        }
+    }
+
+    /// A dealloc more, in the region itself.
+    fn add_own(&mut self, memref: &'a Name) -> Result<(), AllocError>
+        ensures own { OnOk result ((m : Name) → names_of self.new.own.keys m ≡ (names_of self.old.own.keys m || same_name memref.now m)) }
+        ensures more { OnOk result ((m : Name) → names_of self.new.more.keys m ≡ (names_of self.old.more.keys m || (names_of self.old.own.keys memref.now && same_name memref.now m))) }
+    {
+        if is_released(&self.own, memref) {
+            note(&mut self.more, memref)
+        } else {
+            note(&mut self.own, memref)
+        }
+    }
+
+    /// A statement more before the rest.
+    fn add(&mut self, stmt: &'a Stmt) -> Result<(), AllocError>
+        ensures { OnOk result ((rest : Nest) → Lists self.old rest → Lists self.new (put_what stmt.now.what stmt.now.line rest)) }
+    {
+        match role_of(&stmt.what) {
+            Role::Dealloc(memref) => self.add_own(memref),
+            Role::Region => note_stmt(&mut self.more, stmt),
+            Role::Alloc(_) => Ok(()),
+            Role::Other => Ok(()),
+        }
+    }
+
+    /// Whether the rest has exactly one dealloc of the name, in the region itself.
+    fn has_once(&self, name: &'a Name) -> bool
+        ensures { (rest : Nest) → Lists self.now rest → result ≡ is_released_once name.now rest }
+    {
+        is_released(&self.own, name) && !is_released(&self.more, name)
+    }
+
+    /// Whether a statement before the rest doesn't allocate what isn't released exactly once.
+    fn releases(&self, what: &'a What) -> bool
+        ensures { (rest : Nest) → Lists self.now rest → result ≡ once_of (plain_of what.now) rest }
+    {
+        match role_of(what) {
+            Role::Alloc(name) => self.has_once(name),
+            Role::Dealloc(_) => true,
+            Role::Region => true,
+            Role::Other => true,
+        }
+    }
+}
+
+/// Of each statement of a region whether what it allocates, if anything, is released exactly once, in the region itself.
+pub(crate) fn released_once(alloc: Global, stmts: &[Stmt]) -> Result<Vec<bool>, AllocError>
+    ensures { IfOk result (λ once. once.items ≡ once_each stmts.now) }
 {
-    own(rest, name) == 1 && in_list(rest, name) == 1
+    let mut deallocs = Deallocs::new(alloc);
+    let mut once = Vec::new(alloc);
+    let length = stmts.len();
+    for done in 0..length {
+        let stmt = &stmts[length - 1 - done];
+        once.push(deallocs.releases(&stmt.what))?;
+        deallocs.add(stmt)?;
+    }
+    once.reverse();
+    Ok(once)
 }

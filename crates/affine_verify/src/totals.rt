@@ -7,7 +7,8 @@ ghost use Rattle.affine_ast.specs.Validity.{with_argument, argument_shape};
 ghost use Rattle.affine_rules.specs.Scoped.{totals_of};
 
 use affine_ast::{ArgKind, MemrefType};
-use affine_rules::{Totals, elements, shape_within};
+use affine_rules::Totals;
+use shape_rules::{elements, shape_within};
 
 /// The elements of a memref of a shape within the limits, or one past 2^24 where they are more.
 #[tactic(auto, using(crate::proofs::Shapes::positive))]

@@ -1,10 +1,11 @@
 // The statements in text order.
-ghost use Rattle.std.specs.Prelude.{◌≡◌, ◌≤◌, ◌<◌, ◌+◌, take, drop, length, OnOk, false};
-ghost use Rattle.affine_ast.specs.Nest.{nest, put_what};
+ghost use Rattle.std.specs.Prelude.{◌≡◌, ◌≤◌, take, length, OnOk, false};
+ghost use Rattle.affine_ast.specs.Nest.{Nest, nest, put_what};
 ghost use Rattle.affine_ast.specs.Scope.{counted, in_loop, in_condition};
 ghost use Rattle.affine_ast.specs.Validity.{told, rule_of_loop, rule_of_condition};
 ghost use Rattle.affine_rules.specs.Scoped.{around_of, totals_of};
 ghost use Rattle.affine_verify.specs.Comes.{Comes, Steps, Extends, Plainly, Enters};
+ghost use Rattle.affine_verify.specs.Deallocs.{once_of};
 ghost use Rattle.affine_verify.specs.Plains.{plain_of, is_region};
 
 use crate::fault::{VerifyFault, judged};
@@ -12,6 +13,7 @@ use crate::plain::{
     alloc_stmt, binary_stmt, cast_stmt, constant_stmt, dealloc_stmt, defined, load_stmt,
     raw_load_stmt, value_stmt,
 };
+use crate::release::released_once;
 use crate::values::turn_interval;
 use affine_ast::{Bound, Name, Stmt, What};
 use affine_expr::Set;
@@ -116,11 +118,11 @@ fn plain_stmt<'a>(
     alloc: Global,
     line: u32,
     what: &'a What,
-    rest: &'a [Stmt],
+    once: bool,
     scoped: &mut Scoped<'a>,
 ) -> Result<(), VerifyFault>
     requires { is_region what.now ≡ false }
-    ensures { Plainly result line (plain_of what.now) (nest rest.now) scoped.old scoped.new }
+    ensures { (rest : Nest) → once ≡ once_of (plain_of what.now) rest → Plainly result line (plain_of what.now) rest scoped.old scoped.new }
 {
     match what {
         What::Value { result, pick, at } => value_stmt(alloc, line, result, *pick, at, scoped),
@@ -169,7 +171,7 @@ fn plain_stmt<'a>(
             from,
             to,
         } => cast_stmt(line, result, *kind, value, *from, *to, scoped),
-        What::Alloc { result, ty } => alloc_stmt(alloc, line, result, ty, rest, scoped),
+        What::Alloc { result, ty } => alloc_stmt(alloc, line, result, ty, once, scoped),
         What::Dealloc { memref, ty } => dealloc_stmt(line, memref, ty, scoped),
         What::Start {
             from,
@@ -206,17 +208,17 @@ fn plain_stmt<'a>(
 fn simple_stmt<'a>(
     alloc: Global,
     stmt: &'a Stmt,
-    rest: &'a [Stmt],
+    once: bool,
     scoped: &mut Scoped<'a>,
 ) -> Result<(), VerifyFault>
     requires region { is_region stmt.now.what ≡ false }
     requires small { scoped.old.totals.statements ≤ 65536 }
-    ensures told { Steps result (told (put_what stmt.now.what stmt.now.line (nest rest.now)) (around_of scoped.old)) (told (nest rest.now) (around_of scoped.new)) }
-    ensures kept { OnOk result (Extends scoped.old scoped.new) }
-    ensures small { OnOk result (scoped.new.totals.statements ≤ 65536) }
+    ensures told { (rest : Nest) → once ≡ once_of (plain_of stmt.now.what) rest → Steps result (told (put_what stmt.now.what stmt.now.line rest) (around_of scoped.old)) (told rest (around_of scoped.new)) }
+    ensures kept { (rest : Nest) → once ≡ once_of (plain_of stmt.now.what) rest → OnOk result (Extends scoped.old scoped.new) }
+    ensures small { (rest : Nest) → once ≡ once_of (plain_of stmt.now.what) rest → OnOk result (scoped.new.totals.statements ≤ 65536) }
 {
     count(scoped);
-    plain_stmt(alloc, stmt.line, &stmt.what, rest, scoped)
+    plain_stmt(alloc, stmt.line, &stmt.what, once, scoped)
 }
 
 #[cycle(walk)]
@@ -224,15 +226,15 @@ fn simple_stmt<'a>(
 fn step<'a>(
     alloc: Global,
     stmt: &'a Stmt,
-    rest: &'a [Stmt],
+    once: bool,
     scoped: &mut Scoped<'a>,
 ) -> Result<(), VerifyFault>
     requires statements { scoped.old.totals.statements ≤ 65536 }
     requires loops { scoped.old.loops ≤ 17 }
     requires ifs { scoped.old.ifs ≤ 17 }
-    ensures told { Steps result (told (put_what stmt.now.what stmt.now.line (nest rest.now)) (around_of scoped.old)) (told (nest rest.now) (around_of scoped.new)) }
-    ensures kept { OnOk result (Extends scoped.old scoped.new) }
-    ensures small { OnOk result (scoped.new.totals.statements ≤ 65536) }
+    ensures told { (rest : Nest) → once ≡ once_of (plain_of stmt.now.what) rest → Steps result (told (put_what stmt.now.what stmt.now.line rest) (around_of scoped.old)) (told rest (around_of scoped.new)) }
+    ensures kept { (rest : Nest) → once ≡ once_of (plain_of stmt.now.what) rest → OnOk result (Extends scoped.old scoped.new) }
+    ensures small { (rest : Nest) → once ≡ once_of (plain_of stmt.now.what) rest → OnOk result (scoped.new.totals.statements ≤ 65536) }
 {
     match &stmt.what {
         What::For {
@@ -288,28 +290,20 @@ fn step<'a>(
                 }
             }
         }
-        What::Value { .. } => simple_stmt(alloc, stmt, rest, scoped),
-        What::Load { .. } => simple_stmt(alloc, stmt, rest, scoped),
-        What::Store { .. } => simple_stmt(alloc, stmt, rest, scoped),
-        What::RawLoad { .. } => simple_stmt(alloc, stmt, rest, scoped),
-        What::RawStore { .. } => simple_stmt(alloc, stmt, rest, scoped),
-        What::Constant { .. } => simple_stmt(alloc, stmt, rest, scoped),
-        What::Binary { .. } => simple_stmt(alloc, stmt, rest, scoped),
-        What::Cast { .. } => simple_stmt(alloc, stmt, rest, scoped),
-        What::Alloc { .. } => simple_stmt(alloc, stmt, rest, scoped),
-        What::Dealloc { .. } => simple_stmt(alloc, stmt, rest, scoped),
-        What::Start { .. } => simple_stmt(alloc, stmt, rest, scoped),
-        What::Wait { .. } => simple_stmt(alloc, stmt, rest, scoped),
-        What::Return => simple_stmt(alloc, stmt, rest, scoped),
+        What::Value { .. } => simple_stmt(alloc, stmt, once, scoped),
+        What::Load { .. } => simple_stmt(alloc, stmt, once, scoped),
+        What::Store { .. } => simple_stmt(alloc, stmt, once, scoped),
+        What::RawLoad { .. } => simple_stmt(alloc, stmt, once, scoped),
+        What::RawStore { .. } => simple_stmt(alloc, stmt, once, scoped),
+        What::Constant { .. } => simple_stmt(alloc, stmt, once, scoped),
+        What::Binary { .. } => simple_stmt(alloc, stmt, once, scoped),
+        What::Cast { .. } => simple_stmt(alloc, stmt, once, scoped),
+        What::Alloc { .. } => simple_stmt(alloc, stmt, once, scoped),
+        What::Dealloc { .. } => simple_stmt(alloc, stmt, once, scoped),
+        What::Start { .. } => simple_stmt(alloc, stmt, once, scoped),
+        What::Wait { .. } => simple_stmt(alloc, stmt, once, scoped),
+        What::Return => simple_stmt(alloc, stmt, once, scoped),
     }
-}
-
-/// The statements behind a place of a list.
-fn behind(stmts: &[Stmt], place: usize) -> &[Stmt]
-    requires { place < length stmts.now }
-    ensures { result.now ≡ drop (place + 1) stmts.now }
-{
-    &stmts[place + 1..]
 }
 
 /// The statements of a list.
@@ -326,8 +320,9 @@ pub(crate) fn list<'a>(
     ensures kept { OnOk result (Extends scoped.old scoped.new) }
     ensures small { OnOk result (scoped.new.totals.statements ≤ 65536) }
 {
+    let once = released_once(alloc, stmts)?;
     for (place, next) in stmts.iter().enumerate() {
-        let stepped = step(alloc, next, behind(stmts, place), scoped);
+        let stepped = step(alloc, next, once[place], scoped);
         if stepped.is_err() {
             return stepped;
         }

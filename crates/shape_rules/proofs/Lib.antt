@@ -1,0 +1,2 @@
+pub mod PurityLaws
+pub mod Products
