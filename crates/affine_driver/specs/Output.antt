@@ -39,11 +39,12 @@ report_line line placed = subject_text line placed.memref ++ decision_text place
 abbrev pub report : ℕ → List Placement → List ℕ
 report line placements = flat_map (report_line line) placements
 
--- what `stage` writes of a module: report and printed spelling of the staged module of a module of the first form, which
--- runs as that module does
+-- what `stage` writes of a module: report and printed spelling of the staged module of a module of the first form, which is
+-- valid and runs as that module does
 pub record IsStageOutput (input : Module) (output : List ℕ) : Type 0 where
   pub staged : Staged
   pub by : IsStagedBy input staged
+  pub valid : IsValid staged.module
   pub runs : RunsAs input staged.module
   pub text : output ≡ report staged.line staged.placements ++ spelling staged.module
 
