@@ -139,7 +139,7 @@ unfolding arg_types
 positive_args args f h = positive_all args (λ n. None) f h no_types
 
 -- no argument has more elements than all together
-size_fits : (args : List Arg) (m : Name) (size : ℕ) → arg_types args m ≡ Some (slow_type size) → size ≤ sum_by arg_elements args
+pub size_fits : (args : List Arg) (m : Name) (size : ℕ) → arg_types args m ≡ Some (slow_type size) → size ≤ sum_by arg_elements args
 size_fits args m size e =
     let fits = plan_fits args (record { memref = m; size = size; place = 0; extent = 0; writes = false } ∷ []) (tt, tt) (e, tt) in
     omega (arith, fits)

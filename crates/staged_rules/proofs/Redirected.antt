@@ -38,7 +38,7 @@ use Rattle.staged_rules.proofs.Expressions.{AreInside, IsFine, dim_fine, const_f
 use Rattle.staged_rules.proofs.Steps.{goes_on, is_there, is_free, value_stands_here, value_of, window_same, text_met, IsReady, load_holds, store_holds}
 
 -- what holds of all staged memrefs holds of the one of a name
-staged_of_all : (P : Staged → Type 0) (ss : List Staged) (m : Name) (s : Staged) → All P ss → staged_of ss m ≡ Some s → P s
+pub staged_of_all : (P : Staged → Type 0) (ss : List Staged) (m : Name) (s : Staged) → All P ss → staged_of ss m ≡ Some s → P s
 staged_of_all P [] m s h e = absurd (let z : ⊥ = cc in z)
 staged_of_all P (t ∷ ss) m s h e = by (same_name t.memref m) e (λ e. staged_of_all P ss m s (all_tail P t ss h) e)
   where
