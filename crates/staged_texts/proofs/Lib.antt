@@ -6,3 +6,4 @@ pub mod Unmade
 pub mod Lines
 pub mod Nested
 pub mod Whole
+pub mod Placements

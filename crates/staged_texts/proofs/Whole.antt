@@ -44,7 +44,7 @@ use Rattle.staged_texts.proofs.Unmade.{unmade, plan_unmade, wrapped_alike, core_
 -- ---- the module of the text
 
 -- the parts of the module of a text
-input_told : (source : List ℕ) (m : Module) → length source < 2 ^ 64 → Spells source m → ToldFunction m × AreWritten (nest m.body)
+pub input_told : (source : List ℕ) (m : Module) → length source < 2 ^ 64 → Spells source m → ToldFunction m × AreWritten (nest m.body)
 input_told source m short s =
     let given = given_text source s.tokens s.end short s.lexed in
     let h = s.spelled in
@@ -117,7 +117,10 @@ module _ (m : Module) (l : FirstLoop) (form : IsOfFirstForm m l) (v : IsValidFir
       let t = input_told source m short s in
       let n = told_spells_behind (comment_lines comments) (staged m plan l) (comments_gap comments lines) (staged_told t.0 t.1) staged_nests in
       subst (λ (text : List ℕ). SpellsStaged m (comment_lines comments ++ text)) (sym spelled_same) (record {
+        looped = l;
+        form = form;
         printed = n.0;
+        same = n.1.0;
         spelled = n.1.1;
         valid = valid_alike (staged m plan l) n.0 n.1.0 (staged_valid false m l form v);
         runs = λ memory fits filler. subst (λ o. Agrees (plain m memory) o) (prompt_alike (staged m plan l) n.0 n.1.0 memory filler 1048576) (staged_runs memory fits filler);
