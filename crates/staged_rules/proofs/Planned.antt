@@ -39,7 +39,7 @@ record IsNumbered (is_made : Bool) (total : ℕ) (s : Staged) : Type 0 where
   pub out_turn : (k : ℕ) × (s.out_turn ≡ copy_name is_made (total + k)) × (k < total)
   pub out_value : (k : ℕ) × (s.out_value ≡ copy_name is_made (total + k)) × (k < total)
 
-written_less : (ps : List Planned) → written_out ps ≤ length ps
+pub written_less : (ps : List Planned) → written_out ps ≤ length ps
 written_less [] = omega arith
 written_less (p ∷ ps) = one p.writes (written_less ps)
   where
@@ -91,14 +91,14 @@ all_placed name total low high next [] w = all_nil (IsPlaced low high)
 all_placed name total low high next (p ∷ ps) w =
     all_cons (IsPlaced low high) _ (numbered_from name total (next + 3) ps) (w.0, w.1) (all_placed name total low high (next + 3) ps w.2)
 
-length_numbered : (name : ℕ → Name) (total next : ℕ) (ps : List Planned) → length (numbered_from name total next ps) ≡ length ps
+pub length_numbered : (name : ℕ → Name) (total next : ℕ) (ps : List Planned) → length (numbered_from name total next ps) ≡ length ps
 length_numbered name total next [] = refl
 length_numbered name total next (p ∷ ps) = let h = length_numbered name total (next + 3) ps in omega (arith, h)
 
 -- a window begins at 0 or no later than the loop
-window_moved : (low : ℤ) (place least : ℕ) → place ≤ gap low → (place ≡ 0) ⊎ (pos place ≤ℤ low)
-window_moved (pos n) place least h = inr (omega (arith, ints, h))
-window_moved (negsuc n) place least h = inl (omega (arith, h))
+window_moved : (low : ℤ) (place : ℕ) → place ≤ gap low → (place ≡ 0) ⊎ (pos place ≤ℤ low)
+window_moved (pos n) place h = inr (omega (arith, ints, h))
+window_moved (negsuc n) place h = inl (omega (arith, h))
 
 -- ---- the sizes of arguments
 
@@ -194,7 +194,7 @@ module _ (is_made : Bool) (m : Module) (l : FirstLoop) (form : IsOfFirstForm m l
           positive = omega (arith, extent, positive, some);
           inside = window.inside;
           small = omega (arith, fits, room);
-          moved = window_moved l.low s.place 0 (omega (arith, place));
+          moved = window_moved l.low s.place (omega (arith, place));
         }
 
   -- with turns, all accessed memrefs are staged

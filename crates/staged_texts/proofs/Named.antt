@@ -21,7 +21,7 @@ use Rattle.printed_texts.proofs.Given.{IsWritten}
 use Rattle.printed_texts.proofs.Pieces.{is_id_byte}
 use Rattle.printed_texts.proofs.Marks.{decimal_digits}
 use Rattle.printed_texts.proofs.Modules.{AllTold}
-use Rattle.staged_rules.proofs.Planned.{IsSoundPlan}
+use Rattle.staged_rules.proofs.Planned.{IsSoundPlan, written_less, length_numbered}
 use Rattle.staged_texts.proofs.Statements.{AreArgumentsWritten, IsNamed}
 
 -- ---- the names of the template
@@ -49,14 +49,6 @@ record AreCopies (s : Staged) : Type 0 where
   out_turn : IsWritten s.out_turn
   out_value : IsWritten s.out_value
 
-written_less : (ps : List Planned) → written_out ps ≤ length ps
-written_less [] = omega arith
-written_less (p ∷ ps) = one p.writes (written_less ps)
-  where
-    one : (t : Bool) → written_out ps ≤ length ps → (if t then 1 else 0) + written_out ps ≤ length (p ∷ ps)
-    one true h = omega (arith, h)
-    one false h = omega (arith, h)
-
 all_copies : (total next : ℕ) (ps : List Planned) → next + 3 * length ps < 2 ^ 63 → total + 2 * length ps < 2 ^ 63 → All AreCopies (numbered_from (copy_name false) total next ps)
 all_copies total next [] h k = all_nil AreCopies
 all_copies total next (p ∷ ps) h k =
@@ -70,10 +62,6 @@ all_copies total next (p ∷ ps) h k =
       out_value = copy_written (total + 2 * written_out ps + 1) (omega (arith, k, fewer));
     })
     (all_copies total (next + 3) ps (omega (arith, h)) (omega (arith, k)))
-
-length_numbered : (name : ℕ → Name) (total next : ℕ) (ps : List Planned) → length (numbered_from name total next ps) ≡ length ps
-length_numbered name total next [] = refl
-length_numbered name total next (p ∷ ps) = let h = length_numbered name total (next + 3) ps in omega (arith, h)
 
 staged_copies : (l : FirstLoop) → length (first_staged false l) ≤ length l.body → length l.body ≤ 4096 → All AreCopies (first_staged false l)
 staged_copies l few small = by (nat_eq (turn_count l.low l.high) 0) few

@@ -81,6 +81,9 @@ from_more R s ss total a t rest = let r = rest t.behind t.within in record { beh
 same_told : (R : Regions) (w : What) (total : ℕ) → ToldStatement R w total total → IsTold R w total 0
 same_told R w total t = record { behind = total; within = omega arith; told = t }
 
+wider : (R : Regions) (w : What) (total a b : ℕ) → a ≤ b → IsTold R w total a → IsTold R w total b
+wider R w total a b h t = let p = t.within in record { behind = t.behind; within = omega (arith, p, h); told = t.told }
+
 module _ (R : Regions) (total most : ℕ) where
   load_told : (r m : Name) (at : Access) (ty : MemrefType) → IsWritten r → IsWritten m → AreSpelled at total most → TypeTold ty → IsTold R (what.Load r m at ty) total most
   load_told r m at ty v w s y = record { behind = s.behind; within = s.within; told = defined_told R r (what.Load r m at ty) total s.behind v (load_definition r total m at s.behind ty w s.told y) }
@@ -175,17 +178,11 @@ module _ (args : List Arg) (plan : List Staged) (l : FirstLoop) (names : All IsN
   module _ (R : Regions) (total : ℕ) (room : total + 3 ≤ 1048576) where
     loads_told : (o : Option Staged) (r m : Name) (size : ℕ) → ((s : Staged) → o ≡ Some s → IsNamed s) → IsWritten r → arg_types args m ≡ Some (slow_type size) → IsTold R (redirect_load o r m (at_value l.var) (slow_type size)) total 3
     loads_told (Some s) r m size named w typed = let n = named s refl in load_told R total 3 r s.fast (in_half s.place (at_value l.var)) (window_type s) w n.fast (fast_spelled l.var var total s.place room (place_small s n)) (window_told s (extent_small s n))
-    loads_told None r m size named w typed = wider (load_told R total 2 r m (at_value l.var) (slow_type size) w (arguments m (slow_type size) typed) (slow_spelled l.var var total 0 (omega (arith, room)) (omega arith)) (slow_told size (sizes m size typed)))
-      where
-        wider : IsTold R (what.Load r m (at_value l.var) (slow_type size)) total 2 → IsTold R (what.Load r m (at_value l.var) (slow_type size)) total 3
-        wider t = let w = t.within in record { behind = t.behind; within = omega (arith, w); told = t.told }
+    loads_told None r m size named w typed = wider R (what.Load r m (at_value l.var) (slow_type size)) total 2 3 (omega arith) (load_told R total 2 r m (at_value l.var) (slow_type size) w (arguments m (slow_type size) typed) (slow_spelled l.var var total 0 (omega (arith, room)) (omega arith)) (slow_told size (sizes m size typed)))
 
     stores_told : (o : Option Staged) (x m : Name) (size : ℕ) → ((s : Staged) → o ≡ Some s → IsNamed s) → IsWritten x → arg_types args m ≡ Some (slow_type size) → IsTold R (redirect_store o x m (at_value l.var) (slow_type size)) total 3
     stores_told (Some s) x m size named w typed = let n = named s refl in store_told R total 3 x s.fast (in_half s.place (at_value l.var)) (window_type s) w n.fast (fast_spelled l.var var total s.place room (place_small s n)) (window_told s (extent_small s n))
-    stores_told None x m size named w typed = wider (store_told R total 2 x m (at_value l.var) (slow_type size) w (arguments m (slow_type size) typed) (slow_spelled l.var var total 0 (omega (arith, room)) (omega arith)) (slow_told size (sizes m size typed)))
-      where
-        wider : IsTold R (what.Store x m (at_value l.var) (slow_type size)) total 2 → IsTold R (what.Store x m (at_value l.var) (slow_type size)) total 3
-        wider t = let w = t.within in record { behind = t.behind; within = omega (arith, w); told = t.told }
+    stores_told None x m size named w typed = wider R (what.Store x m (at_value l.var) (slow_type size)) total 2 3 (omega arith) (store_told R total 2 x m (at_value l.var) (slow_type size) w (arguments m (slow_type size) typed) (slow_spelled l.var var total 0 (omega (arith, room)) (omega arith)) (slow_told size (sizes m size typed)))
 
     found_named : (m : Name) (s : Staged) → staged_of plan m ≡ Some s → IsNamed s
     found_named m s e = staged_of_all IsNamed plan m s names e
