@@ -1,5 +1,5 @@
 -- What a command writes.
-use Rattle.std.specs.Prelude.{◌≡◌, ℕ, ◌*◌, Bool, true, false, List, ◌++◌, None, nat_eq, if◌then◌else◌, codes}
+use Rattle.std.specs.Prelude.{◌≡◌, ℕ, ◌*◌, ◌≤◌, Bool, true, false, List, ◌++◌, None, nat_eq, if◌then◌else◌, codes}
 use Rattle.std.specs.Fmt.{decimal}
 use Rattle.std.specs.List.{flat_map}
 use Rattle.affine_ast.specs.declared.module.Module.{Module}
@@ -39,12 +39,15 @@ report_line line placed = subject_text line placed.memref ++ decision_text place
 abbrev pub report : ℕ → List Placement → List ℕ
 report line placements = flat_map (report_line line) placements
 
--- what `stage` writes of a module: report and printed spelling of the staged module of a module of the first form, which
--- runs as that module does
+-- what `stage` writes of a module: report and printed spelling of the staged module of a module of the first form, which is
+-- valid and runs as that module does
 pub record IsStageOutput (input : Module) (output : List ℕ) : Type 0 where
   pub staged : Staged
   pub by : IsStagedBy input staged
+  pub valid : IsValid staged.module
   pub runs : RunsAs input staged.module
+  -- a line is a number of 32 bits
+  pub line : staged.line ≤ 4294967295
   pub text : output ≡ report staged.line staged.placements ++ spelling staged.module
 
 -- what a command writes of a module; `check` writes its printed spelling

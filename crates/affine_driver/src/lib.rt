@@ -7,8 +7,10 @@
 mod command;
 mod ending;
 mod report;
+mod spelled;
 mod top;
 
 pub use command::Command;
 pub use ending::Ending;
+pub use spelled::stage_output_spells;
 pub use top::{SOURCE_LIMIT, stage_main};

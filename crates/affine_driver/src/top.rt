@@ -21,6 +21,7 @@ use affine_text::{ParseFault, parse};
 use affine_verify::{VerifyFault, verify};
 use first_path::{Staged, stage_first};
 use first_rules::first_form_rules;
+use staged_rules::staged_is_valid;
 use std::alloc::{AllocError, Global};
 
 /// The most bytes of a source.
@@ -49,6 +50,7 @@ fn stage_output(alloc: Global, module: &Module) -> Result<Option<Vec<u8>>, Alloc
     let Some(staged) = stage_first(alloc, module)? else {
         return Ok(None);
     };
+    staged_is_valid();
     let output = output_of(alloc, &staged)?;
     Ok(Some(output))
 }

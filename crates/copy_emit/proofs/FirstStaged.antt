@@ -203,7 +203,7 @@ module _ (own : Name → Bool) (is_made : Bool) (apart : (k : ℕ) → own (copy
       none_written (what.Store x m at ty) = all_nil (λ s. same_name s.memref m ≡ true → s.writes ≡ true)
       none_written w = tt
 
-  first_plan_is : (m : Module) (l : FirstLoop) → IsFirstForm own m l → sum_by arg_elements m.args ≤ 262144 → length l.body ≤ 4096 → IsPlan own m l (first_staged is_made l)
+  pub first_plan_is : (m : Module) (l : FirstLoop) → IsFirstForm own m l → sum_by arg_elements m.args ≤ 262144 → length l.body ≤ 4096 → IsPlan own m l (first_staged is_made l)
   first_plan_is m l form room few = by (nat_eq (turn_count l.low l.high) 0)
     where
       by : (t : Bool) → IsPlan own m l (numbered (copy_name is_made) (if t then [] else first_plan l))

@@ -35,6 +35,8 @@ pub record Given (before : List Arg) (a : Around) : Type 0 where
   pub indexes : a.totals.indexes ≡ 0
   pub memrefs : a.totals.memrefs ≡ length before
   pub elements : a.totals.elements ≡ sum_by arg_elements before
+  pub allocated : a.totals.allocated ≡ 0
+  pub tags : a.totals.tags ≡ 0
 
 vector_shape : (size : ℕ) → 1 ≤ size → shape_within (slow_type size) ≡ true
 unfolding shape_within sizes_positive
@@ -87,6 +89,8 @@ module _ (before : List Arg) (a : Around) (g : Given before a) (name : Name) (si
         indexes = g.indexes;
         memrefs = omega (arith, m, n);
         elements = omega (arith, e, sum);
+        allocated = g.allocated;
+        tags = g.tags;
       }
 
 -- an argument breaks no rule, and it is in scope behind it
@@ -137,4 +141,4 @@ arguments_pass (x ∷ args) before all body a e g f v room =
 
 pub nothing_given : Given [] outside
 unfolding arg_types
-nothing_given = record { types = λ n. refl; new = λ n h. refl; released = λ n. refl; loops = refl; ifs = refl; statements = refl; indexes = refl; memrefs = refl; elements = refl }
+nothing_given = record { types = λ n. refl; new = λ n h. refl; released = λ n. refl; loops = refl; ifs = refl; statements = refl; indexes = refl; memrefs = refl; elements = refl; allocated = refl; tags = refl }

@@ -30,21 +30,21 @@ use Rattle.first_rules.proofs.Demands.{plain_met, loop_met}
 use Rattle.first_rules.proofs.ValidArguments.{Given, arguments_pass, nothing_given}
 use Rattle.first_rules.proofs.ValidStatements.{Inside, kept, plain_passes, statements_pass, statements_plain}
 
-inside_bound : (z : ℤ) → IsBound z → IsInside z
+pub inside_bound : (z : ℤ) → IsBound z → IsInside z
 inside_bound z h = let low = h.0 in let high = h.1 in record { low = omega (arith, ints, low); high = omega (arith, ints, high) }
 
-bound_small : (z : ℤ) → IsBound z → is_small z ≡ true
+pub bound_small : (z : ℤ) → IsBound z → is_small z ≡ true
 bound_small z h = ap not (not_outside z (inside_bound z h))
 
 -- the greatest turn of a loop between bounds is in range
-greater : (P : ℤ → Type 0) (a b : ℤ) → P a → (int_lt b a ≡ false → P b) → P (int_max a b)
+pub greater : (P : ℤ → Type 0) (a b : ℤ) → P a → (int_lt b a ≡ false → P b) → P (int_max a b)
 greater P a b p q = by (int_lt b a) refl
   where
     by : (t : Bool) → int_lt b a ≡ t → P (cond t a b)
     by true t = p
     by false t = q t
 
-inside_turns : (a b : ℤ) → IsBound a → IsBound b → IsInside (int_max a (b -ℤ pos 1))
+pub inside_turns : (a b : ℤ) → IsBound a → IsBound b → IsInside (int_max a (b -ℤ pos 1))
 inside_turns a b p q =
     let a_low = p.0 in
     let b_high = q.1 in
@@ -54,7 +54,7 @@ return_holds : (a : Around) → text_within a ≡ true → Holds a Return (nest 
 return_holds a text = record { uses = refl; new_name = refl; stand = refl; types = refl; constants = refl; counts = refl; pure = refl; bounded = refl; spaces = refl; elements = refl; text = text }
 
 -- the `return` behind so many statements
-return_passes : (line : ℕ) (a : Around) → text_within (counted a) ≡ true → (t : Totals) × (told (nest (record { line = line; what = what.Return } ∷ [])) a ≡ Passed t)
+pub return_passes : (line : ℕ) (a : Around) → text_within (counted a) ≡ true → (t : Totals) × (told (nest (record { line = line; what = what.Return } ∷ [])) a ≡ Passed t)
 unfolding told
 return_passes line a text = (
   (counted a).totals,

@@ -53,7 +53,7 @@ pub plain_passes : (line loops count : ℕ) (holds : Bool) (more : PlainTold) �
 plain_passes line loops count holds more h c l =
     ap (λ (b : Bool). if b then more else FaultAt line) (both holds (nat_le count 4096 && nat_le loops 8) h (both (nat_le count 4096) (nat_le loops 8) (le-leb count 4096 c) (le-leb loops 8 l)))
 
-i32_of_range : (z : ℤ) → IsInI32 z → in_signed_range 32 z ≡ true
+pub i32_of_range : (z : ℤ) → IsInI32 z → in_signed_range 32 z ≡ true
 unfolding in_signed_range
 i32_of_range z h = let low = h.0 in let high = h.1 in both (int_le (neg_ℤ (pos (2 ^ 31))) z) (int_lt z (pos (2 ^ 31))) (grind (arith, ints, low)) (grind (arith, ints, high))
 

@@ -16,6 +16,7 @@ pub mod Bounds
 pub mod Plain
 pub mod Blocks
 pub mod Modules
+pub mod Comments
 pub mod Whole
 pub mod Stable
 pub mod Examples

@@ -416,7 +416,7 @@ module_again m t n =
     writes_as file (module_pieces m.name (listed arg_text m.args) (lines four (nest m.body)))
 
 -- what a text spells, the printed spelling of it spells again
-module_told : (aliases : List Alias) (m : Module) (f : List Tok) → AliasesTold aliases → Given f → ModuleOf aliases f m → ToldFunction m
+pub module_told : (aliases : List Alias) (m : Module) (f : List Tok) → AliasesTold aliases → Given f → ModuleOf aliases f m → ToldFunction m
 module_told aliases m f known g (inr h) = function_told aliases m f known g h
 module_told aliases m f known g (inl h) =
     let i = h.second.second in

@@ -16,6 +16,7 @@ use Rattle.printed_texts.specs.Lines.{AreSameButLines}
 use Rattle.printed_texts.proofs.Pieces.{tok, Are}
 use Rattle.printed_texts.proofs.Given.{HasNameForm, AllGiven, Given}
 use Rattle.printed_texts.proofs.Blocks.{Writes}
+use Rattle.printed_texts.proofs.Comments.{IsGap, cut_behind}
 use Rattle.printed_texts.proofs.Modules.{ToldFunction, module_again, file_again}
 
 -- ---- the tokens of a given text
@@ -99,16 +100,28 @@ tokens_printed s (p ∷ ps) e (t ∷ ts) h =
 
 -- ---- both
 
-printed_spells : (m : Module) → Writes false (spelling m) File (AreSameButLines m) → (n : Module) × (AreSameButLines m n × Spells (spelling m) n)
-printed_spells m w =
-    let c : AreCut (after_word []) (spelling m) w.pieces = subst (λ b. AreCut (after_word []) b w.pieces) (append-nil (spelling m)) (subst (λ ps. AreCut (after_word []) (spelling m ++ []) ps) (append-nil w.pieces) (w.cut [] [] tt nothing_left)) in
-    let t = cut_tokens (spelling m) w.pieces c in
-    let r = tokens_printed (spelling m) w.pieces (k.End, []) t.0 t.1.1 in
-    let y = w.spelled (tokens_of (spelling m) r.before) r.are in
-    (y.0, (y.1.0, record { tokens = r.before; end = r.last; lexed = subst (λ ts. AreTokens (spelling m) ts) r.parts t.1.0; spelled = y.1.1 }))
+-- bytes that are cut into the pieces of the printed text spell what it spells
+cut_spells : (m : Module) (bytes : List ℕ) (w : Writes false (spelling m) File (AreSameButLines m)) → AreCut (after_word []) bytes w.pieces → (n : Module) × (AreSameButLines m n × Spells bytes n)
+cut_spells m bytes w c =
+    let t = cut_tokens bytes w.pieces c in
+    let r = tokens_printed bytes w.pieces (k.End, []) t.0 t.1.1 in
+    let y = w.spelled (tokens_of bytes r.before) r.are in
+    (y.0, (y.1.0, record { tokens = r.before; end = r.last; lexed = subst (λ ts. AreTokens bytes ts) r.parts t.1.0; spelled = y.1.1 }))
+
+printed_cut : (m : Module) (w : Writes false (spelling m) File (AreSameButLines m)) → AreCut (after_word []) (spelling m) w.pieces
+printed_cut m w = subst (λ b. AreCut (after_word []) b w.pieces) (append-nil (spelling m)) (subst (λ ps. AreCut (after_word []) (spelling m ++ []) ps) (append-nil w.pieces) (w.cut [] [] tt nothing_left))
   where
     nothing_left : AreCut (after_word []) [] []
     nothing_left = cut_nothing (after_word [])
+
+printed_spells : (m : Module) → Writes false (spelling m) File (AreSameButLines m) → (n : Module) × (AreSameButLines m n × Spells (spelling m) n)
+printed_spells m w = cut_spells m (spelling m) w (printed_cut m w)
+
+-- Behind lines of comments it does too.
+pub told_spells_behind : (front : List ℕ) (m : Module) → IsGap front → ToldFunction m → ModuleNests m → (n : Module) × (AreSameButLines m n × Spells (front ++ spelling m) n)
+told_spells_behind front m g t n =
+    let w = module_again m t n in
+    cut_spells m (front ++ spelling m) w (cut_behind front (spelling m) w.pieces g (printed_cut m w))
 
 -- Where the parts of a module are told, its printed spelling spells one that is the same but for its lines.
 pub told_spells : (m : Module) → ToldFunction m → ModuleNests m → (n : Module) × (AreSameButLines m n × Spells (spelling m) n)

@@ -1,0 +1,10 @@
+pub mod Expressions
+pub mod Steps
+pub mod Copies
+pub mod Deallocs
+pub mod Redirected
+pub mod Turns
+pub mod Regions
+pub mod Forms
+pub mod Planned
+pub mod Modules
