@@ -1,4 +1,6 @@
 pub mod Command
+pub mod Laws
 pub mod Message
 pub mod Output
 pub mod Reading
+pub mod Refusals

@@ -1,5 +1,5 @@
 // Cutting a source at its first line `---`.
-ghost use Rattle.std.specs.Prelude.{◌≡◌, ◌<◌, ◌≤◌, ◌∷◌, not, ◌==◌, length, take, drop};
+ghost use Rattle.std.specs.Prelude.{◌≡◌, ◌+◌, ◌<◌, ◌≤◌, ◌∷◌, not, ◌==◌, length, take, drop};
 ghost use Rattle.std.specs.List.{prefix_len};
 ghost use Rattle.source_parts.specs.Parts as spec;
 
@@ -47,6 +47,7 @@ fn line_length(bytes: &[u8]) -> usize
 pub fn split(source: &[u8]) -> Parts<'_>
     ensures text { result.text.now ≡ spec.text_part source.now }
     ensures image { result.image.now ≡ spec.image_part source.now }
+    ensures within { length result.text.now + length result.image.now ≤ length source.now }
 {
     let mut at = 0;
     while at < source.len() {
