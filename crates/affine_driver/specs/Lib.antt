@@ -1,5 +1,7 @@
 pub mod Command
+pub mod Laws
 pub mod Message
 pub mod Output
 pub mod Reading
+pub mod Refusals
 pub mod Spelled

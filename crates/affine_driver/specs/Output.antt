@@ -1,7 +1,8 @@
 -- What a command writes.
-use Rattle.std.specs.Prelude.{◌≡◌, ℕ, ◌*◌, ◌≤◌, Bool, true, false, List, ◌++◌, None, nat_eq, if◌then◌else◌, codes}
+use Rattle.std.specs.Prelude.{◌≡◌, ℕ, ◌*◌, ◌^◌, ◌≤◌, Bool, true, false, List, ◌++◌, None, nat_eq, if◌then◌else◌, codes}
 use Rattle.std.specs.Fmt.{decimal}
 use Rattle.std.specs.List.{flat_map}
+use Rattle.affine_ast.specs.declared.image.Image.{Image}
 use Rattle.affine_ast.specs.declared.module.Module.{Module}
 use Rattle.affine_ast.specs.declared.name.Name.{Name}
 use Rattle.affine_ast.specs.Spelling.{name_text, spelling}
@@ -11,8 +12,14 @@ use Rattle.first_path.specs.Law.{IsStagedBy, RunsAs}
 use Rattle.affine_ast.specs.Validity.{IsValid}
 use Rattle.affine_ast.specs.PlainLimits.{plain_fault}
 use Rattle.affine_grammar.specs.Spelling.{Spells}
+use Rattle.bus_model.specs.declared.step.Verdict.TheVariants as verdict
+use Rattle.direct_meaning.specs.Direct.{plain, verdict_of, state_of}
+use Rattle.direct_meaning.specs.Work.{work}
+use Rattle.mem_image.specs.Images as image
+use Rattle.run_laws.specs.StaysFitting.{with_slow}
+use Rattle.source_parts.specs.Parts.{text_part, image_part}
 use Rattle.affine_driver.specs.declared.command.Command.{Command}
-use Rattle.affine_driver.specs.declared.command.Command.TheVariants.{Check, Stage}
+use Rattle.affine_driver.specs.declared.command.Command.TheVariants.{Check, Stage, Plain}
 
 -- the block, which is the first and only one, its line and the memref
 unfoldable pub subject_text : ℕ → Name → List ℕ
@@ -50,19 +57,35 @@ pub record IsStageOutput (input : Module) (output : List ℕ) : Type 0 where
   pub line : staged.line ≤ 4294967295
   pub text : output ≡ report staged.line staged.placements ++ spelling staged.module
 
--- what a command writes of a module; `check` writes its printed spelling
-abbrev pub Writes : Command → Module → List ℕ → Type 0
-Writes Check input output = output ≡ spelling input
-Writes Stage input output = IsStageOutput input output
+-- the most work of a module that is run
+abbrev pub work_limit : ℕ
+work_limit = 2 ^ 48
 
--- the module meets the rules of validity that the command asks for: V1 to V12, and to be staged V13
+-- what `plain` writes of a module and the text of an image: the run from the memory that the text spells comes to its end, and
+-- the printed image is that of the memory which the direct meaning then leaves
+pub record IsPlainOutput (input : Module) (text output : List ℕ) : Type 0 where
+  pub memory : Image
+  pub read : image.Spells text input memory
+  pub within : work input ≤ work_limit
+  pub ends : verdict_of (plain input memory) ≡ verdict.End
+  pub printed : output ≡ image.printed input (with_slow memory (state_of (plain input memory)).slow)
+
+-- what a command writes of a module and the text of an image; `check` writes the module's printed spelling, and `check` and
+-- `stage` don't look at the image
+abbrev pub Writes : Command → Module → List ℕ → List ℕ → Type 0
+Writes Check input text output = output ≡ spelling input
+Writes Stage input text output = IsStageOutput input output
+Writes Plain input text output = IsPlainOutput input text output
+
+-- the module meets the rules of validity that the command asks for: V1 to V12, and to be staged or run V13
 abbrev pub Meets : Command → Module → Type 0
 Meets Check input = IsValid input
 Meets Stage input = IsValid input × (plain_fault input ≡ None)
+Meets Plain input = IsValid input × (plain_fault input ≡ None)
 
--- the output of the bytes under a command: that of the valid module which they spell
-pub record IsOutput (command : Command) (bytes output : List ℕ) : Type 0 where
+-- the output of a source under a command: that of the valid module which its text spells, and of its image
+pub record IsOutput (command : Command) (source output : List ℕ) : Type 0 where
   pub input : Module
-  pub spelled : Spells bytes input
+  pub spelled : Spells (text_part source) input
   pub valid : Meets command input
-  pub writes : Writes command input output
+  pub writes : Writes command input (image_part source) output

@@ -8,4 +8,4 @@ use Rattle.affine_driver.specs.Output.{IsStageOutput}
 -- what `stage` writes of the module of a text spells what is staged of it: a valid module that runs as the module does. The
 -- report's lines are comments of that text
 abbrev pub StageOutputSpells : Type 0
-StageOutputSpells = (source output : List ℕ) (input : Module) → length source < 2 ^ 64 → Spells source input → IsStageOutput input output → SpellsStaged input output
+StageOutputSpells = (text output : List ℕ) (input : Module) → length text < 2 ^ 64 → Spells text input → IsStageOutput input output → SpellsStaged input output

@@ -9,6 +9,8 @@ pub enum Command {
     Check,
     /// Print the report and the staged module.
     Stage,
+    /// Run the module by its direct meaning, and print the final image.
+    Plain,
 }
 
 fn command_word(word: &str) -> Option<Command>
@@ -18,6 +20,8 @@ fn command_word(word: &str) -> Option<Command>
         Some(Command::Check)
     } else if word == "stage" {
         Some(Command::Stage)
+    } else if word == "plain" {
+        Some(Command::Plain)
     } else {
         None
     }

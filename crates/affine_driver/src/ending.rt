@@ -1,11 +1,12 @@
 // How a call of the program ends.
 ghost use Rattle.std.specs.Prelude.{◌≡◌, Some};
-ghost use Rattle.affine_driver.specs.Message.{message_of, status_of};
+ghost use Rattle.affine_driver.specs.Message.{fault_name, message_of, status_of};
 
+use bus_model::FaultKind;
 use std::fmt;
 
 /// How a call of the program ends. Its text is the message on standard error.
-#[derive(Clone, Copy, Debug)]
+#[derive(Clone, Copy)]
 pub enum Ending {
     /// The source was read to its end and the whole output was written.
     Done,
@@ -21,12 +22,34 @@ pub enum Ending {
     /// The module breaks a rule of validity: the line of the first argument or statement that breaks one, counted from 1, and
     /// the number of the lowest that it breaks.
     Invalid { line: u32, rule: u8 },
+    /// The image breaks a rule: the line of the first line that breaks one, counted from 1 behind the line `---`, and the
+    /// number of the lowest that it breaks.
+    Image { line: u32, rule: u8 },
+    /// The run stopped at a fault.
+    Fault(FaultKind),
     /// The module isn't of the first form.
     Unbuilt,
     /// The sink failed; what it took is a prefix of the output.
     WriteFault,
     /// Memory ran out.
     Memory,
+    /// The module that is to be run may take too many actions: its work passes the limit.
+    Turns { work: u128 },
+}
+
+/// A fault's name in the message.
+fn name_of(kind: FaultKind) -> &'static str
+    ensures { result.now ≡ fault_name kind }
+{
+    match kind {
+        FaultKind::Bounds => "bounds",
+        FaultKind::Divide => "divide",
+        FaultKind::Touched => "touched",
+        FaultKind::Race => "race",
+        FaultKind::Tag => "tag",
+        FaultKind::Capacity => "capacity",
+        FaultKind::Shape => "shape",
+    }
 }
 
 impl Ending {
@@ -41,8 +64,11 @@ impl Ending {
             Ending::TooLong => 3,
             Ending::Text { .. } => 4,
             Ending::Invalid { .. } => 5,
+            Ending::Image { .. } => 6,
+            Ending::Fault(_) => 7,
             Ending::WriteFault => 8,
             Ending::Memory => 9,
+            Ending::Turns { .. } => 10,
             Ending::Unbuilt => 11,
         }
     }
@@ -59,9 +85,15 @@ impl fmt::Display for Ending {
             Ending::TooLong => write!(f, "affine: source too long"),
             Ending::Text { line, column } => write!(f, "affine: text {line}:{column}"),
             Ending::Invalid { line, rule } => write!(f, "affine: invalid line {line} rule V{rule}"),
+            Ending::Image { line, rule } => write!(f, "affine: image line {line} rule I{rule}"),
+            Ending::Fault(kind) => {
+                let name = name_of(*kind);
+                write!(f, "affine: fault {name}")
+            }
             Ending::Unbuilt => write!(f, "affine: not built"),
             Ending::WriteFault => write!(f, "affine: write fault"),
             Ending::Memory => write!(f, "affine: out of memory"),
+            Ending::Turns { work } => write!(f, "affine: turns {work}"),
         }
     }
 }

@@ -1,0 +1,60 @@
+// The command `stage`.
+ghost use Rattle.std.specs.Prelude.{◌≡◌, ◌++◌, None, IfOk, IfSome, IfNone, MatchResult};
+ghost use Rattle.affine_ast.specs.PlainLimits.{plain_fault};
+ghost use Rattle.affine_ast.specs.Spelling.{spelling};
+ghost use Rattle.affine_ast.specs.Validity.{IsValid};
+ghost use Rattle.copy_emit.specs.Template.{FirstLoop};
+ghost use Rattle.first_path.specs.Form.{IsOfFirstForm};
+ghost use Rattle.affine_driver.specs.Output.{report, IsStageOutput};
+ghost use Rattle.affine_driver.specs.Refusals.{IsNotStaged, Stages};
+
+use crate::ending::Ending;
+use crate::report::put_report;
+use affine_ast::{Module, Verified};
+use affine_print::print;
+use first_path::{Staged, stage_first};
+use first_rules::first_form_rules;
+use staged_rules::staged_is_valid;
+use std::alloc::{AllocError, Global};
+
+/// Report and printed spelling of a staged module.
+fn output_of(alloc: Global, staged: &Staged) -> Result<Vec<u8>, AllocError>
+    ensures { IfOk result (λ output. output.items ≡ report staged.now.line staged.now.placements ++ spelling staged.now.«module») }
+{
+    let mut out = Vec::new(alloc);
+    put_report(alloc, &mut out, staged.line, staged.placements.as_slice())?;
+    let printed = print(alloc, &staged.module)?;
+    out.extend_from_slice(printed.as_slice())?;
+    Ok(out)
+}
+
+/// Report and staged module, exactly where the valid module is of the first form.
+#[tactic(auto, using(crate::proofs::Refusals::not_of_form))]
+fn stage_output(alloc: Global, module: &Module) -> Result<Option<Vec<u8>>, AllocError>
+    requires valid { IsValid «module».now }
+    requires plain { plain_fault «module».now ≡ None }
+    ensures output { IfOk result (λ found. IfSome found (λ output. IsStageOutput «module».now output.items)) }
+    ensures other { IfOk result (λ found. IfNone found ((l : FirstLoop) → IsOfFirstForm «module».now l → ⊥)) }
+{
+    first_form_rules();
+    let Some(staged) = stage_first(alloc, module)? else {
+        return Ok(None);
+    };
+    staged_is_valid();
+    let output = output_of(alloc, &staged)?;
+    Ok(Some(output))
+}
+
+/// What `stage` writes of a valid module, or why it writes nothing.
+pub(crate) fn staged(alloc: Global, verified: &Verified) -> Result<Vec<u8>, Ending>
+    ensures { MatchResult result (λ output. Stages verified.now.inner output.items) (λ ending. IsNotStaged verified.now.inner ending) }
+{
+    if let Some(line) = verified.plain_fault() {
+        return Err(Ending::Invalid { line, rule: 13 });
+    }
+    match stage_output(alloc, verified.module()) {
+        Ok(Some(output)) => Ok(output),
+        Ok(None) => Err(Ending::Unbuilt),
+        Err(AllocError) => Err(Ending::Memory),
+    }
+}
