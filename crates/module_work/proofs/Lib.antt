@@ -1,0 +1,4 @@
+pub mod Saturation
+pub mod Tables
+pub mod Works
+pub mod ValidWork
