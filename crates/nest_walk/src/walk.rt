@@ -7,7 +7,7 @@ ghost use Rattle.valid_laws.specs.Safe.{SafeNest};
 ghost use Rattle.walk_program.specs.Reading.{nest_of, arguments_of};
 ghost use Rattle.walk_program.specs.Tree.{tree};
 ghost use Rattle.walk_program.specs.WellMade.{WellMade};
-ghost use Rattle.nest_walk.specs.Walked.{Next};
+ghost use Rattle.nest_walk.specs.Walked.{Next, Begins};
 
 use crate::position::Position;
 use affine_ast::Name;

@@ -1,5 +1,5 @@
 -- What an action by number means: the numbers of names stand for the names.
-use Rattle.std.specs.Prelude.{ℕ, List, map, Option, Some, None}
+use Rattle.std.specs.Prelude.{ℕ, ◌<◌, List, map, All, Option}
 use Rattle.affine_ast.specs.declared.name.Name.{Name}
 use Rattle.affine_ast.specs.Sizes.{scalar_bits}
 use Rattle.direct_meaning.specs.Action as meaning
@@ -39,3 +39,19 @@ meant names subscripts (Starts t) = meaning.Starts t
 meant names subscripts (Waits tag count) = meaning.Waits tag count
 meant names subscripts (Faults k) = meaning.Faults k
 meant names subscripts Returns = meaning.Returns
+
+-- a register is the number of one of so many names
+abbrev pub OperandIn : ℕ → Operand → Type 0
+OperandIn count (Number z) = Unit {0}
+OperandIn count (Register r) = r < count
+
+-- every number of a name in an action, and in the subscripts beside it, is that of one of so many names
+abbrev pub NamesIn : ℕ → List Operand → Action → Type 0
+NamesIn count subscripts (Sets r z) = r < count
+NamesIn count subscripts (Loads r place) = r < count
+NamesIn count subscripts (Stores x place) = OperandIn count x
+NamesIn count subscripts (RawLoads r home sizes) = (r < count) × All (OperandIn count) subscripts
+NamesIn count subscripts (RawStores x home sizes) = OperandIn count x × All (OperandIn count) subscripts
+NamesIn count subscripts (Operates r op ty a b) = (r < count) × OperandIn count a × OperandIn count b
+NamesIn count subscripts (Converts r kind from to x) = (r < count) × OperandIn count x
+NamesIn count subscripts action = Unit {0}
