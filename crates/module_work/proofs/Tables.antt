@@ -1,5 +1,12 @@
 -- The table of intervals.
-use Rattle.std.proofs.Common.{◌≡◌, Bool, true, false, List, [], ◌∷◌, ◌++◌, refl, sym, ap, ◌∙◌, IsTrue}
+use Rattle.std.proofs.Common.{◌≡◌, ℕ, ◌+◌, ◌<◌, Bool, true, false, List, [], ◌∷◌, ◌++◌, map, take, drop, length, get_or, refl, sym, ap, ◌∙◌}
+use Rattle.std.proofs.lemmas.List.{take_more, map-append}
+use Rattle.affine_rules.proofs.Intervals.{ranges_push, ranges_take, ranges_drop}
+use Rattle.std.specs.List.{list_all}
+use Rattle.affine_ast.specs.declared.types.Access.{Access}
+use Rattle.affine_ast.specs.Rules.{has_interval}
+use Rattle.valid_laws.specs.Bounded.{BoundedAccess}
+use Rattle.affine_expr.specs.Spread.{range_of}
 use Rattle.std.specs.Prelude.{◌&&◌, Option, Some, None, if◌then◌else◌, pos}
 use Rattle.std.specs.Str.{bytes_eq}
 use Rattle.std.specs.Map.{lookup}
@@ -10,10 +17,10 @@ use Rattle.indexmap.specs.IndexMap.{insert_entry}
 use mathlib.Core.Path.{fun_ext}
 use mathlib.Core.Bool.{beq}
 use Rattle.affine_expr.specs.declared.map.Interval.{Interval}
-use Rattle.affine_expr.specs.Bounded.{range_at}
+use Rattle.affine_expr.specs.Bounded.{range_at, ranges}
 use Rattle.affine_expr.specs.Spread.{Range, only}
 use Rattle.affine_ast.specs.declared.name.Name.{Name}
-use Rattle.affine_ast.specs.Intervals.{Ranges}
+use Rattle.affine_ast.specs.Intervals.{Ranges, ranges_at}
 use Rattle.affine_ast.specs.Names.{same_bool, same_name, put}
 use Rattle.affine_ast.proofs.Names.{put-same, put-other, same_name-eq, same_name-sym}
 use Rattle.affine_rules.specs.declared.scope.Key.{Key}
@@ -100,3 +107,37 @@ pub kept_one : (bs cs : List Before) (b : Before) (rho sigma : Ranges) (r : Rang
 kept_one bs cs b rho sigma r push was is =
     (λ i. put_back (push i) (is i)) ∙ put_back-append bs b (put rho b.name.now r)
     ∙ ap (put_back bs) (ap (put (put rho b.name.now r) b.name.now) was ∙ put_twice rho b.name.now r)
+
+-- the ranges of one name more
+pub one_more : (f : Name → Range) (names : List Name) (i : ℕ) (n : Name) (is js : List Interval) (x : Interval) → i < length names → n ≡ get_or names i n → ranges is ≡ map f (take i names) → range_at x ≡ f n
+    → js ≡ is ++ x ∷ [] → ranges js ≡ map f (take (i + 1) names)
+one_more f names i n is js x h at so r push =
+    ap ranges push ∙ ranges_push is x ∙ (λ k. so k ++ (r ∙ ap f at) k ∷ [])
+    ∙ sym (map-append f (take i names) (get_or names i n ∷ [])) ∙ ap (map f) (sym (take_more names i n h))
+
+-- over the intervals of the operands, the results of an access have intervals, and these are its ranges
+module _ (rho : Ranges) (at : Access) (is ds ss : List Interval) (e : ranges is ≡ map rho at.operands) (d : ds ≡ take at.map.dims is) (t : ss ≡ drop at.map.dims is) where
+  dims_are : ranges ds ≡ take at.map.dims (map rho at.operands)
+  dims_are = ap ranges d ∙ ranges_take at.map.dims is ∙ ap (take at.map.dims) e
+
+  syms_are : ranges ss ≡ drop at.map.dims (map rho at.operands)
+  syms_are = ap ranges t ∙ ranges_drop at.map.dims is ∙ ap (drop at.map.dims) e
+
+  pub results_bounded : BoundedAccess rho at → list_all (has_interval (ranges ds) (ranges ss)) at.map.results ≡ true
+  results_bounded h = (λ i. list_all (has_interval (dims_are i) (syms_are i)) at.map.results) ∙ h
+
+  pub results_found : (rs : List Range) → rs ≡ map (range_of (ranges ds) (ranges ss)) at.map.results → rs ≡ ranges_at rho at
+  results_found rs h = h ∙ (λ i. map (range_of (dims_are i) (syms_are i)) at.map.results)
+
+-- a name's range set, and set back
+pub ranges_back : (rho inside behind after : Ranges) (n : Name) (r x : Range) → inside ≡ put rho n r → behind ≡ inside → after ≡ put behind n x → x ≡ rho n → after ≡ rho
+ranges_back rho inside behind after n r x h k l e = l ∙ (λ i. put ((k ∙ h) i) n (e i)) ∙ put_twice rho n r
+
+-- the last of the names put back
+pub back_one : (bs cs : List Before) (b : Before) (rho sigma goal : Ranges) → cs ≡ bs ++ b ∷ [] → sigma ≡ put rho b.name.now (range_at b.interval) → put_back cs rho ≡ goal → put_back bs sigma ≡ goal
+back_one bs cs b rho sigma goal push is h = ap (put_back bs) is ∙ sym (put_back-append bs b rho) ∙ ap (λ l. put_back l rho) (sym push) ∙ h
+
+-- an empty table has no range for any name
+pub ranges_empty : (es : List (Key × Interval)) → es ≡ [] → ranges_of es ≡ (λ n. only (pos 0))
+unfolding ranges_of
+ranges_empty es h = ap (λ xs n. range_or_zero (lookup (is_key n) xs)) h

@@ -1,18 +1,18 @@
 // The work of statements.
-ghost use Rattle.std.specs.Prelude.{◌≡◌, OnOk, IfOk, false, pos, ◌<ℤ◌};
+ghost use Rattle.std.specs.Prelude.{◌≡◌, ℕ, ◌+◌, ◌^◌, ◌≤◌, OnOk, IfOk, false, pos, ◌<ℤ◌};
 ghost use Rattle.affine_expr.specs.Bounded.{range_at};
 ghost use Rattle.affine_ast.specs.Intervals.{first_turn, last_end, turn_range, ranges_at, picked_range};
 ghost use Rattle.affine_ast.specs.Names.{put};
 ghost use Rattle.affine_ast.specs.Nest.{nest, Nothing, put_what};
 ghost use Rattle.affine_verify.specs.Plains.{plain_of, is_region};
-ghost use Rattle.direct_meaning.specs.Work.{turn_count, full_work, no_range, ranges_after_constant};
+ghost use Rattle.direct_meaning.specs.Work.{turn_count, full_work, no_range};
 ghost use Rattle.module_work.specs.Saturated.{saturated};
-ghost use Rattle.module_work.specs.Steps.{Does, Steps};
+ghost use Rattle.module_work.specs.Steps.{range_of_constant, Does, Steps};
 ghost use Rattle.module_work.specs.Table.{ranges_of, put_back};
 ghost use Rattle.module_work.specs.Workable.{WorkableBound, WorkableAccess, WorkablePlain, Workable};
 
 use crate::bounds::{first_turn, last_end, picked};
-use crate::count::{above_zero, product, sum, turn_count};
+use crate::count::{product, start_work, sum, turn_count};
 use crate::ranges::{Before, Ranges, define, only, range_of, restore, set};
 use affine_ast::{Bound, Name, Scalar, Stmt, What};
 use affine_expr::Interval;
@@ -54,7 +54,7 @@ fn enter_loop<'a>(
 
 /// The interval of a constant: data has none.
 fn constant(value: i64, ty: Scalar) -> Interval
-    ensures { (n : Rattle.affine_ast.specs.declared.name.Name.Name) → (rho : Rattle.affine_ast.specs.Intervals.Ranges) → ranges_after_constant n value ty rho ≡ put rho n (range_at result) }
+    ensures { range_at result ≡ range_of_constant value ty }
 {
     match ty {
         Scalar::Int(_) => only(0),
@@ -100,7 +100,7 @@ fn plain<'a>(
             define(ranges, before, result, only(0))?;
             Ok(1)
         }
-        What::Start { count, .. } => Ok(above_zero(range_of(ranges, count).greatest) + 3),
+        What::Start { count, .. } => Ok(start_work(range_of(ranges, count).greatest)),
         What::Store { .. } => Ok(1),
         What::RawStore { .. } => Ok(1),
         What::Alloc { .. } => Ok(1),
@@ -112,16 +112,35 @@ fn plain<'a>(
     }
 }
 
-/// The work of a statement. A region leaves the intervals as they were.
+/// The work so far with that of a statement without a region.
+fn with_plain<'a>(
+    alloc: Global,
+    what: &'a What,
+    total: u128,
+    ranges: &mut Ranges<'a>,
+    before: &mut Vec<Before<'a>>,
+) -> Result<u128, AllocError>
+    requires region { is_region what.now ≡ false }
+    requires workable { WorkablePlain (ranges_of ranges.old.entries) (plain_of what.now) }
+    ensures steps { (line : ℕ) → IfOk result (λ next. Steps total next (record { line = line; what = what.now }) (ranges_of ranges.old.entries) (ranges_of ranges.new.entries)) }
+    ensures kept { OnOk result (put_back before.new.items (ranges_of ranges.new.entries) ≡ put_back before.old.items (ranges_of ranges.old.entries)) }
+{
+    let work = plain(alloc, what, ranges, before)?;
+    Ok(sum(total, work))
+}
+
+/// The work so far with that of a statement. A region leaves the intervals as they were.
 #[cycle(walk)]
 fn statement<'a>(
     alloc: Global,
     stmt: &'a Stmt,
+    total: u128,
     ranges: &mut Ranges<'a>,
     before: &mut Vec<Before<'a>>,
 ) -> Result<u128, AllocError>
-    requires { Workable (put_what stmt.now.what stmt.now.line Nothing) (ranges_of ranges.old.entries) }
-    ensures steps { IfOk result (λ work. Steps work stmt.now (ranges_of ranges.old.entries) (ranges_of ranges.new.entries)) }
+    requires workable { Workable (put_what stmt.now.what stmt.now.line Nothing) (ranges_of ranges.old.entries) }
+    requires total { total ≤ 2 ^ 127 }
+    ensures steps { IfOk result (λ next. Steps total next stmt.now (ranges_of ranges.old.entries) (ranges_of ranges.new.entries)) }
     ensures kept { OnOk result (put_back before.new.items (ranges_of ranges.new.entries) ≡ put_back before.old.items (ranges_of ranges.old.entries)) }
 {
     match &stmt.what {
@@ -133,53 +152,51 @@ fn statement<'a>(
             body,
         } => {
             let entered = enter_loop(alloc, ranges, var, lower, upper, *step)?;
-            let inside = list(alloc, body.as_slice(), ranges)?;
+            let inside = list(alloc, body.as_slice(), 0, ranges)?;
             set(ranges, var, entered.outside)?;
-            Ok(product(entered.turns, inside))
+            Ok(sum(total, product(entered.turns, inside)))
         }
         What::If { first, other, .. } => {
-            let first = list(alloc, first.as_slice(), ranges)?;
+            let total = list(alloc, first.as_slice(), total, ranges)?;
             match other {
-                None => Ok(first),
-                Some(other) => {
-                    let other = list(alloc, other.as_slice(), ranges)?;
-                    Ok(sum(first, other))
-                }
+                None => Ok(total),
+                Some(other) => list(alloc, other.as_slice(), total, ranges),
             }
         }
-        What::Value { .. } => plain(alloc, &stmt.what, ranges, before),
-        What::Load { .. } => plain(alloc, &stmt.what, ranges, before),
-        What::Store { .. } => plain(alloc, &stmt.what, ranges, before),
-        What::RawLoad { .. } => plain(alloc, &stmt.what, ranges, before),
-        What::RawStore { .. } => plain(alloc, &stmt.what, ranges, before),
-        What::Constant { .. } => plain(alloc, &stmt.what, ranges, before),
-        What::Binary { .. } => plain(alloc, &stmt.what, ranges, before),
-        What::Cast { .. } => plain(alloc, &stmt.what, ranges, before),
-        What::Alloc { .. } => plain(alloc, &stmt.what, ranges, before),
-        What::Dealloc { .. } => plain(alloc, &stmt.what, ranges, before),
-        What::Start { .. } => plain(alloc, &stmt.what, ranges, before),
-        What::Wait { .. } => plain(alloc, &stmt.what, ranges, before),
-        What::Return => plain(alloc, &stmt.what, ranges, before),
+        What::Value { .. } => with_plain(alloc, &stmt.what, total, ranges, before),
+        What::Load { .. } => with_plain(alloc, &stmt.what, total, ranges, before),
+        What::Store { .. } => with_plain(alloc, &stmt.what, total, ranges, before),
+        What::RawLoad { .. } => with_plain(alloc, &stmt.what, total, ranges, before),
+        What::RawStore { .. } => with_plain(alloc, &stmt.what, total, ranges, before),
+        What::Constant { .. } => with_plain(alloc, &stmt.what, total, ranges, before),
+        What::Binary { .. } => with_plain(alloc, &stmt.what, total, ranges, before),
+        What::Cast { .. } => with_plain(alloc, &stmt.what, total, ranges, before),
+        What::Alloc { .. } => with_plain(alloc, &stmt.what, total, ranges, before),
+        What::Dealloc { .. } => with_plain(alloc, &stmt.what, total, ranges, before),
+        What::Start { .. } => with_plain(alloc, &stmt.what, total, ranges, before),
+        What::Wait { .. } => with_plain(alloc, &stmt.what, total, ranges, before),
+        What::Return => with_plain(alloc, &stmt.what, total, ranges, before),
     }
 }
 
-/// The work of the statements of a list. The intervals are then as they were before.
+/// The work so far with that of the statements of a list. The intervals are then as they were before.
 #[cycle(walk)]
 pub(crate) fn list<'a>(
     alloc: Global,
     stmts: &'a [Stmt],
+    total: u128,
     ranges: &mut Ranges<'a>,
 ) -> Result<u128, AllocError>
-    requires { Workable (nest stmts.now) (ranges_of ranges.old.entries) }
-    ensures work { IfOk result (λ work. work ≡ saturated (full_work (nest stmts.now) (ranges_of ranges.old.entries))) }
+    requires workable { Workable (nest stmts.now) (ranges_of ranges.old.entries) }
+    requires total { total ≤ 2 ^ 127 }
+    ensures work { IfOk result (λ next. next ≡ saturated (total + full_work (nest stmts.now) (ranges_of ranges.old.entries))) }
     ensures ranges { OnOk result (ranges_of ranges.new.entries ≡ ranges_of ranges.old.entries) }
 {
-    let mut total = 0;
+    let mut next = total;
     let mut before = Vec::new(alloc);
     for stmt in stmts {
-        let work = statement(alloc, stmt, ranges, &mut before)?;
-        total = sum(total, work);
+        next = statement(alloc, stmt, next, ranges, &mut before)?;
     }
     restore(ranges, before)?;
-    Ok(total)
+    Ok(next)
 }

@@ -1,5 +1,6 @@
 // The work of a module.
 ghost use Rattle.std.specs.Prelude.{◌≡◌, OnOk, IfOk, fold};
+ghost use Rattle.affine_ast.specs.Intervals.{range_or};
 ghost use Rattle.direct_meaning.specs.Work.{work, arg_ranges};
 ghost use Rattle.module_work.specs.Table.{ranges_of};
 
@@ -12,7 +13,7 @@ use std::alloc::{AllocError, Global};
 
 /// The range of an index argument.
 fn range_or(range: Option<Interval>) -> Interval
-    ensures { result ≡ Rattle.affine_ast.specs.Intervals.range_or range }
+    ensures { result ≡ range_or range }
 {
     match range {
         Some(range) => range,
@@ -48,10 +49,10 @@ fn arguments<'a>(args: &'a [Arg], ranges: &mut Ranges<'a>) -> Result<(), AllocEr
 ///
 /// `AllocError`, for want of memory alone.
 pub fn work(alloc: Global, module: &Verified) -> Result<u128, AllocError>
-    ensures { IfOk result (λ total. total ≡ work module.now.inner) }
+    ensures { IfOk result (λ total. total ≡ work «module».now.inner) }
 {
     let module = module.module();
     let mut ranges = IndexMap::new(alloc);
     arguments(module.args.as_slice(), &mut ranges)?;
-    list(alloc, module.body.as_slice(), &mut ranges)
+    list(alloc, module.body.as_slice(), 0, &mut ranges)
 }

@@ -1,0 +1,4 @@
+pub mod Held
+pub mod CanRun
+pub mod Takes
+pub mod Refilled
