@@ -71,12 +71,12 @@ module _ (eq : Key → Key → Bool) (key : Key) (n : Name) (t : key.text.now �
   inserted [] = found_here key [] (key_of_name n m key t d ∙ same_name-sym m n)
   inserted (e ∷ es) = cases (eq key e.0)
       (λ s. ap (λ b. lookup (is_key m) (if b then (e.0, v) ∷ es else e ∷ insert_entry eq es key v)) s
-          ∙ found_here e.0 es (key_of_one n m e.0 (sym (is e.0) ∙ s))
-          ∙ cases (same_name n m) (λ y. ap (λ b. if b then Some v else lookup (is_key m) es) y ∙ sym (ap (λ b. if b then Some v else lookup (is_key m) (e ∷ es)) y))
-          (λ y. ap (λ b. if b then Some v else lookup (is_key m) es) y ∙ sym (lookup_tail (is_key m) e es (key_of_one n m e.0 (sym (is e.0) ∙ s) ∙ y)) ∙ sym (ap (λ b. if b then Some v else lookup (is_key m) (e ∷ es)) y)))
+      ∙ found_here e.0 es (key_of_one n m e.0 (sym (is e.0) ∙ s))
+      ∙ cases (same_name n m) (λ y. ap (λ b. if b then Some v else lookup (is_key m) es) y ∙ sym (ap (λ b. if b then Some v else lookup (is_key m) (e ∷ es)) y))
+      (λ y. ap (λ b. if b then Some v else lookup (is_key m) es) y ∙ sym (lookup_tail (is_key m) e es (key_of_one n m e.0 (sym (is e.0) ∙ s) ∙ y)) ∙ sym (ap (λ b. if b then Some v else lookup (is_key m) (e ∷ es)) y)))
       (λ s. ap (λ b. lookup (is_key m) (if b then (e.0, v) ∷ es else e ∷ insert_entry eq es key v)) s ∙ cases (is_key m e.0)
-          (λ h. lookup_head (is_key m) e (insert_entry eq es key v) h ∙ sym (lookup_head (is_key m) e es h) ∙ sym (ap (λ b. if b then Some v else lookup (is_key m) (e ∷ es)) (other_name e.0 h (sym (is e.0) ∙ s))))
-          (λ h. lookup_tail (is_key m) e (insert_entry eq es key v) h ∙ inserted es ∙ ap (λ r. if same_name n m then Some v else r) (sym (lookup_tail (is_key m) e es h))))
+      (λ h. lookup_head (is_key m) e (insert_entry eq es key v) h ∙ sym (lookup_head (is_key m) e es h) ∙ sym (ap (λ b. if b then Some v else lookup (is_key m) (e ∷ es)) (other_name e.0 h (sym (is e.0) ∙ s))))
+      (λ h. lookup_tail (is_key m) e (insert_entry eq es key v) h ∙ inserted es ∙ ap (λ r. if same_name n m then Some v else r) (sym (lookup_tail (is_key m) e es h))))
 
 -- a table with one interval set
 pub ranges_set : (eq : Key → Key → Bool) (key : Key) (n : Name) → key.text.now ≡ n.text → key.made ≡ n.made → ((j : Key) → eq key j ≡ (bytes_eq key.text.now j.text.now && beq key.made j.made)) → (v : Interval) (es fs : List (Key × Interval)) → fs ≡ insert_entry eq es key v

@@ -156,7 +156,7 @@ pub statement-returns-in-Return-clause-steps : goal.statement-returns-in-Return-
 statement-returns-in-Return-clause-steps t c = c.with_plain-in-Return.ensures.steps c.args.stmt.now.line
 
 pub statement-returns-in_ok-set-in-For-clause-steps : goal.statement-returns-in_ok-set-in-For-clause-steps
-statement-returns-in_ok-set-in-For-clause-steps t c = 
+statement-returns-in_ok-set-in-For-clause-steps t c =
     loop_steps c.args.stmt.now.line c.in-For.var c.in-For.lower c.in-For.upper c.in-For.step c.in-For.body (ranges_of c.args.ranges.now.entries) c.args.total c.sum.result c.in_ok-inside-in-For.inside c.in_ok-entered-in-For.entered.turns c.product.result c.args.stmt.now.what (ranges_of c.set.new.ranges.entries) c.in-For.is
     (c.in_ok-entered-in-For.ensures.turns ∙ ap (turn_count (first_turn (ranges_of c.args.ranges.now.entries) c.in-For.lower) (last_end (ranges_of c.args.ranges.now.entries) c.in-For.upper)) (to_z-of_z w64 c.in-For.step (let f : SFits w64 c.in-For.step = search rules in f)))
     (c.in_ok-inside-in-For.ensures.work ∙ (λ i. saturated (0 + full_work (nest (c.as_slice.ensures i)) (c.in_ok-entered-in-For.ensures.ranges i))))
@@ -166,13 +166,13 @@ pub statement-returns-in_ok-set-in-For-clause-kept : goal.statement-returns-in_o
 statement-returns-in_ok-set-in-For-clause-kept t c = ap (put_back c.args.before.now.items) (ranges_back (ranges_of c.args.ranges.now.entries) (ranges_of c.enter_loop.new.ranges.entries) (ranges_of c.list.new.ranges.entries) (ranges_of c.set.new.ranges.entries) c.in-For.var _ (range_at c.in_ok-entered-in-For.entered.outside) c.in_ok-entered-in-For.ensures.ranges c.in_ok-inside-in-For.ensures.ranges c.in_ok-set-in-For.ensures c.in_ok-entered-in-For.ensures.outside)
 
 pub statement-returns-in-None-clause-steps : goal.statement-returns-in-None-clause-steps
-statement-returns-in-None-clause-steps t c = 
+statement-returns-in-None-clause-steps t c =
     if_steps c.args.stmt.now.line c.in-If.set c.in-If.operands c.in-If.first (ranges_of c.args.ranges.now.entries) c.args.total c.in_ok-total-in-If.total c.args.stmt.now.what (ranges_of c.list-in-If.new.ranges.entries)
     (c.in-If.is ∙ ap (what.If c.in-If.set c.in-If.operands c.in-If.first) c.in-None.is)
     (c.in_ok-total-in-If.ensures.work ∙ ap (λ ss. saturated (c.args.total + full_work (nest ss) (ranges_of c.args.ranges.now.entries))) c.as_slice-in-If.ensures) c.in_ok-total-in-If.ensures.ranges
 
 pub statement-returns-in-Some-clause-steps : goal.statement-returns-in-Some-clause-steps
-statement-returns-in-Some-clause-steps t c = 
+statement-returns-in-Some-clause-steps t c =
     if_else_ok c.args.stmt.now.line c.in-If.set c.in-If.operands c.in-If.first (ranges_of c.args.ranges.now.entries) c.list-in-Some.result c.in-Some.other c.args.total c.in_ok-total-in-If.total c.args.stmt.now.what (ranges_of c.list-in-Some.new.ranges.entries) (ranges_of c.list-in-If.new.ranges.entries)
     (c.in-If.is ∙ ap (what.If c.in-If.set c.in-If.operands c.in-If.first) c.in-Some.is)
     (c.in_ok-total-in-If.ensures.work ∙ ap (λ ss. saturated (c.args.total + full_work (nest ss) (ranges_of c.args.ranges.now.entries))) c.as_slice-in-If.ensures) c.in_ok-total-in-If.ensures.ranges
