@@ -7,6 +7,7 @@
 #![tactic(auto)]
 
 mod action;
+mod maps;
 mod scope;
 
 pub use action::{Action, Home, Operand, Place};
