@@ -1,2 +1,4 @@
 pub mod Tables
 pub mod Values
+pub mod Cells
+pub mod Elements

@@ -30,7 +30,7 @@ leaves-Dim : (dims syms n : ℕ) → has_leaves_below dims syms (Dim n) ≡ nat_
 unfolding has_leaves_below
 leaves-Dim dims syms n = ap (fold-Expr Bool (leaves_step dims syms)) (sym (rolls-Dim n)) ∙ fold-roll-Expr Bool (leaves_step dims syms) (Expr-F.Dim n)
 
-get_or-mapped : {A B : Type 0} (f : A → B) (xs : List A) (k : ℕ) (d : A) (z : B) → k < length xs → get_or (map f xs) k z ≡ f (get_or xs k d)
+pub get_or-mapped : {A B : Type 0} (f : A → B) (xs : List A) (k : ℕ) (d : A) (z : B) → k < length xs → get_or (map f xs) k z ≡ f (get_or xs k d)
 get_or-mapped f xs k d z h = get_or_default (map f xs) k z (f d) (omega (arith, length-map xs f, h)) ∙ get_or-map f xs k d
 
 numbers_length : (e : Env) (s : Scope) (ks : List ℕ) → length (numbers e (names_at s.names.now ks)) ≡ length ks

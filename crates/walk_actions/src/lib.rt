@@ -8,6 +8,7 @@
 
 mod action;
 mod maps;
+mod places;
 mod scope;
 
 pub use action::{Action, Home, Operand, Place};
