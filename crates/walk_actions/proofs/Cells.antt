@@ -74,3 +74,15 @@ cell_below ns k c all b =
     omega (arith, g, b)
 
 pub ruleset withins = (within_some, within_low, within_high)
+
+-- the product of the first sizes is no more than that of all
+pub elements_fit : (ns : List ℕ) (k c : ℕ) → All (λ n. 1 ≤ n) ns → k < length ns → c * product (drop k ns) ≡ product ns → c * get_or ns k 0 ≤ product ns
+elements_fit ns k c all h e =
+    let n = get_or ns k 0 in
+    let p = product (drop (k + 1) ns) in
+    let q = product_positive (drop (k + 1) ns) (All-drop (λ n. 1 ≤ n) (k + 1) ns all) in
+    let f : product (drop k ns) ≡ n * p = ap product (drops ns k 0 h) in
+    let g : (c * n) * 1 ≤ (c * n) * p = mul-le-mul_left (c * n) q in
+    let m : (c * n) * p ≡ c * (n * p) = grind arith in
+    let j : c * (n * p) ≡ product ns = ap (λ x. c * x) (sym f) ∙ e in
+    omega (arith, g, m, j)

@@ -113,3 +113,6 @@ half_is number ns e at x half cell h l is p q =
 pub ruleset cells = (all_valued, room_is)
 pub ruleset places = (slow_stands, fast_stands, slow_place, slow_outside, fast_place, tags_place, no_place, few)
 pub ruleset tags = (tags_stand, tag_there, tag_outside, tag_slow, tag_fast, tag_none, few)
+
+pub few_memref : (home : Option meaning.Home) (ty : MemrefType) → IsMemref home ty → product ty.sizes < 2 ^ 32
+few_memref home ty h = few_of home ty h.stands

@@ -2,3 +2,5 @@ pub mod Tables
 pub mod Values
 pub mod Cells
 pub mod Elements
+pub mod Lasts
+pub mod Ends
