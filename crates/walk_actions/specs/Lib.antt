@@ -1,2 +1,4 @@
 pub mod Looked
 pub mod Meant
+pub mod Values
+pub mod Transfers

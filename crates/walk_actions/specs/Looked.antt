@@ -1,10 +1,10 @@
 -- What tables by number say of names.
-use Rattle.std.specs.Prelude.{◌≡◌, ℕ, List, [], ◌∷◌, length, Option, Some, None, if◌then◌else◌}
+use Rattle.std.specs.Prelude.{◌≡◌, ℕ, ℤ, map, List, [], ◌∷◌, length, Option, Some, None, if◌then◌else◌}
 use Rattle.affine_ast.specs.declared.name.Name.{Name}
 use Rattle.affine_ast.specs.Names.{same_name}
 use Rattle.direct_meaning.specs.Action as meaning
-use Rattle.direct_meaning.specs.Static.{Env}
-use Rattle.walk_program.specs.Names.{AreDistinct}
+use Rattle.direct_meaning.specs.Static.{Env, number}
+use Rattle.walk_program.specs.Names.{name_at, AreDistinct}
 use Rattle.walk_actions.specs.declared.action.Home.{Home}
 use Rattle.walk_actions.specs.declared.action.Home.TheVariants.{Slow, Fast, Tags}
 use Rattle.walk_actions.specs.declared.scope.Scope.{Scope}
@@ -38,3 +38,7 @@ pub record IsTable (s : Scope) : Type 0 where
   pub distinct : AreDistinct s.names.now
   pub known : length s.known.items ≡ length s.names.now
   pub homes : length s.homes.items ≡ length s.names.now
+
+-- the numbers of names, by the names' numbers
+unfoldable pub numbers_at : Scope → List ℕ → List ℤ
+numbers_at s ks = map (λ k. number ((env_of s).known (name_at s.names.now k))) ks

@@ -7,7 +7,11 @@
 #![tactic(auto)]
 
 mod action;
+mod maps;
+mod places;
 mod scope;
+mod statements;
+mod transfers;
 
 pub use action::{Action, Home, Operand, Place};
 pub use scope::Scope;
