@@ -1,5 +1,5 @@
 -- Registers by number, as the values of names.
-use Rattle.std.proofs.Common.{◌≡◌, ℕ, zero, suc, ◌<◌, ℤ, pos, List, [], ◌∷◌, length, map, get_or, set, refl, sym, ap, ◌∙◌, arith, Bool, true, false}
+use Rattle.std.proofs.Common.{◌≡◌, ℕ, zero, suc, ◌<◌, ◌≤◌, subst, ℤ, pos, List, [], ◌∷◌, length, map, get_or, set, refl, sym, ap, ◌∙◌, arith, Bool, true, false}
 use mathlib.Core.Path.{fun_ext}
 use Rattle.std.specs.Prelude.{Option, Some, None, replicate, slice_index_or, slice_set}
 use Rattle.affine_ast.specs.declared.name.Name.{Name}
@@ -61,13 +61,24 @@ pub held_zero : (names : List Name) (count : ℕ) → held names (replicate coun
 held_zero names count = fun_ext (all_zero names count)
 
 pub same_machine : (a b : Machine) → Same a b → IsMachine a → IsMachine b
-same_machine a b s t = record { distinct = λ j k p q e. t.distinct j k (at_old p) (at_old q) (old_name j ∙ e ∙ sym (old_name k)); registers = s.registers ∙ t.registers ∙ ap length (sym s.names) }
+same_machine a b s t = record {
+  distinct = λ j k p q e. t.distinct j k (at_old j p) (at_old k q) (old_name j ∙ e ∙ sym (old_name k));
+  registers = s.registers ∙ t.registers ∙ ap length (sym s.names);
+  room = subst (λ n. 7 ≤ n) (sym s.room) t.room;
+}
   where
-    at_old : {k : ℕ} → k < length b.names.now → k < length a.names.now
-    at_old {k} h = let e = ap length s.names in omega (arith, h, e)
+    at_old : (k : ℕ) → k < length b.names.now → k < length a.names.now
+    at_old k h = let e = ap length s.names in omega (arith, h, e)
 
     old_name : (k : ℕ) → name_at a.names.now k ≡ name_at b.names.now k
     old_name k = ap (λ ns. name_at ns k) (sym s.names)
 
+pub same_self : (a : Machine) → Same a a
+same_self a = record { names = refl; registers = refl; room = refl }
+
 pub same_twice : (a b c : Machine) → Same a b → Same b c → Same a c
-same_twice a b c s t = record { names = t.names ∙ s.names; registers = t.registers ∙ s.registers; slow = t.slow ∙ s.slow }
+same_twice a b c s t = record { names = t.names ∙ s.names; registers = t.registers ∙ s.registers; room = t.room ∙ s.room }
+
+-- a register written
+pub kept_state : (m : Machine) (k : ℕ) (z : ℤ) (values : List ℤ) → IsMachine m → k < length m.names.now → values ≡ set m.registers.items k z → (λ n. held m.names.now values n) ≡ put (state_at m).registers (name_at m.names.now k) z
+kept_state m k z values t h r = ap (λ zs n. held m.names.now zs n) r ∙ held_set m.names.now m.registers.items k z t.distinct t.registers h

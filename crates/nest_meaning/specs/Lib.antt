@@ -1,4 +1,2 @@
 pub mod Held
-pub mod CanRun
 pub mod Takes
-pub mod Refilled

@@ -1,7 +1,7 @@
 // Memories as one slow list, and back.
 ghost use Rattle.std.specs.Prelude.{◌≡◌, ◌≤◌, length, IfOk};
 ghost use Rattle.direct_meaning.specs.Memory.{slow_list};
-ghost use Rattle.nest_meaning.specs.Refilled.{refilled};
+ghost use Rattle.run_laws.specs.StaysFitting.{refilled};
 
 use affine_ast::Cells;
 use std::alloc::{AllocError, Global};
@@ -39,12 +39,13 @@ fn fill(cells: &mut Cells, values: &[i64])
 }
 
 /// Gives the cells of memrefs the numbers of a slow list, in order.
-pub(crate) fn refill(memrefs: &mut [Cells], slow: &[i64])
-    requires { length (slow_list memrefs.old) ≤ length slow.now }
-    ensures { memrefs.new ≡ refilled memrefs.old slow.now }
+pub(crate) fn refill(memrefs: &mut Vec<Cells>, slow: &[i64])
+    requires { length (slow_list memrefs.old.items) ≤ length slow.now }
+    ensures { memrefs.new.items ≡ refilled memrefs.old.items slow.now }
 {
     let mut rest = slow;
-    for cells in memrefs.iter_mut() {
+    for place in 0..memrefs.len() {
+        let cells = &mut memrefs[place];
         let (values, behind) = rest.split_at(cells.values.len());
         fill(cells, values);
         rest = behind;
