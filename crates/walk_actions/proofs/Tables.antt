@@ -1,5 +1,5 @@
 -- Tables by number: an entry that is read, and one that is written.
-use Rattle.std.proofs.Common.{◌≡◌, ℕ, zero, suc, ◌+◌, ◌<◌, List, [], ◌∷◌, ◌++◌, length, take, map, get_or, set, refl, sym, ap, ◌∙◌, arith, Bool, true, false}
+use Rattle.std.proofs.Common.{◌≡◌, ℕ, zero, suc, ◌+◌, ◌<◌, List, [], ◌∷◌, ◌++◌, length, take, map, get_or, set, refl, sym, ap, ◌∙◌, subst, ℤ, arith, Bool, true, false}
 use mathlib.Core.Path.{fun_ext}
 use Rattle.std.specs.Prelude.{Option, Some, None, replicate, if◌then◌else◌}
 use Rattle.std.proofs.lemmas.List.{replicate-append-replicate, map_more, take_all, length-map}
@@ -9,10 +9,12 @@ use Rattle.affine_ast.specs.Names.{same_name, put}
 use Rattle.affine_ast.proofs.Names.{same_name-eq, same_name-refl}
 use Rattle.walk_program.specs.Names.{name_at, AreDistinct}
 use Rattle.walk_program.specs.Reading.{names_at}
+use Rattle.direct_meaning.specs.Action as meaning
 use Rattle.direct_meaning.specs.Static.{Env, number, numbers}
 use Rattle.direct_meaning.specs.Memory.{empty_env}
+use Rattle.walk_actions.specs.declared.action.Home.{Home}
 use Rattle.walk_actions.specs.declared.scope.Scope.{Scope}
-use Rattle.walk_actions.specs.Looked.{looked, env_of, homes_meant, IsTable, numbers_at}
+use Rattle.walk_actions.specs.Looked.{looked, env_of, homes_meant, with_known, with_home, IsTable, numbers_at}
 
 distinct_tail : (m : Name) (ms : List Name) → AreDistinct (m ∷ ms) → AreDistinct ms
 distinct_tail m ms d j k p q e = let h : suc j ≡ suc k = d (suc j) (suc k) (omega (arith, p)) (omega (arith, q)) e in omega (arith, h)
@@ -104,3 +106,36 @@ numbers_all s ks = ap (map (λ k. number ((env_of s).known (name_at s.names.now 
 pub numbers_length : (s : Scope) (ks : List ℕ) → length (numbers_at s ks) ≡ length ks
 unfolding numbers_at
 numbers_length s ks = length-map ks (λ k. number ((env_of s).known (name_at s.names.now k)))
+
+table_kept : (s t : Scope) → IsTable s → t.names.now ≡ s.names.now → length t.known.items ≡ length s.known.items → length t.homes.items ≡ length s.homes.items → IsTable t
+table_kept s t h n k m = record { distinct = subst AreDistinct (sym n) h.distinct; known = k ∙ h.known ∙ ap length (sym n); homes = m ∙ h.homes ∙ ap length (sym n) }
+
+-- a number written down
+pub known_set : (s t : Scope) (k : ℕ) (z : Option ℤ) → IsTable s → k < length s.names.now → t.names.now ≡ s.names.now → t.known.items ≡ set s.known.items k z → t.homes.items ≡ s.homes.items → t.fasts ≡ s.fasts → t.tags ≡ s.tags
+    → env_of t ≡ with_known (name_at s.names.now k) z (env_of s)
+known_set s t k z h l n e m f g = λ i. record {
+  known = ((λ j. looked (n j) (e j)) ∙ looked_set s.names.now s.known.items k z h.distinct h.known l) i;
+  home = λ x. homes_meant (looked (n i) (m i) x);
+  fasts = f i;
+  tags = g i;
+}
+
+put_meant : (table : Name → Option Home) (n : Name) (home : Option Home) → (λ x. homes_meant (put table n home x)) ≡ put (λ x. homes_meant (table x)) n (homes_meant home)
+unfolding put
+put_meant table n home = fun_ext (λ x. by_test x (same_name n x) refl)
+  where
+  by_test : (x : Name) (t : Bool) → same_name n x ≡ t → homes_meant (if same_name n x then home else table x) ≡ (if same_name n x then homes_meant home else homes_meant (table x))
+  by_test x true e = rw e refl
+  by_test x false e = rw e refl
+
+-- a memref written down
+pub home_set : (s t : Scope) (k : ℕ) (home : Option Home) → IsTable s → k < length s.names.now → t.names.now ≡ s.names.now → t.homes.items ≡ set s.homes.items k home → t.known.items ≡ s.known.items → t.fasts ≡ s.fasts → t.tags ≡ s.tags
+    → env_of t ≡ with_home (name_at s.names.now k) (homes_meant home) (env_of s)
+home_set s t k home h l n e m f g = λ i. record {
+  known = looked (n i) (m i);
+  home = ((λ j x. homes_meant (looked (n j) (e j) x)) ∙ ap {B = Name → Option meaning.Home} (λ (table : Name → Option Home) x. homes_meant (table x)) (looked_set s.names.now s.homes.items k home h.distinct h.homes l) ∙ put_meant (looked s.names.now s.homes.items) (name_at s.names.now k) home) i;
+  fasts = f i;
+  tags = g i;
+}
+
+pub ruleset writes = (known_at, home_at, known_set, home_set)

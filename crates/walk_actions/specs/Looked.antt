@@ -1,7 +1,7 @@
 -- What tables by number say of names.
 use Rattle.std.specs.Prelude.{◌≡◌, ℕ, ℤ, map, List, [], ◌∷◌, length, Option, Some, None, if◌then◌else◌}
 use Rattle.affine_ast.specs.declared.name.Name.{Name}
-use Rattle.affine_ast.specs.Names.{same_name}
+use Rattle.affine_ast.specs.Names.{same_name, put}
 use Rattle.direct_meaning.specs.Action as meaning
 use Rattle.direct_meaning.specs.Static.{Env, number}
 use Rattle.walk_program.specs.Names.{name_at, AreDistinct}
@@ -42,3 +42,11 @@ pub record IsTable (s : Scope) : Type 0 where
 -- the numbers of names, by the names' numbers
 unfoldable pub numbers_at : Scope → List ℕ → List ℤ
 numbers_at s ks = map (λ k. number ((env_of s).known (name_at s.names.now k))) ks
+
+-- a name with a number, or none
+abbrev pub with_known : Name → Option ℤ → Env → Env
+with_known n number e = record e { known = put e.known n number }
+
+-- a name that stands for a memref, or none
+abbrev pub with_home : Name → Option meaning.Home → Env → Env
+with_home n home e = record e { home = put e.home n home }

@@ -55,3 +55,7 @@ NamesIn count subscripts (RawStores x home sizes) = OperandIn count x × All (Op
 NamesIn count subscripts (Operates r op ty a b) = (r < count) × OperandIn count a × OperandIn count b
 NamesIn count subscripts (Converts r kind from to x) = (r < count) × OperandIn count x
 NamesIn count subscripts action = Unit {0}
+
+-- an action that names no name
+abbrev pub NamesNone : Action → Type 0
+NamesNone action = (count : ℕ) (subscripts : List Operand) → NamesIn count subscripts action

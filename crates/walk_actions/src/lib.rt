@@ -7,6 +7,7 @@
 #![tactic(auto)]
 
 mod action;
+mod change;
 mod maps;
 mod places;
 mod scope;
@@ -14,4 +15,5 @@ mod statements;
 mod transfers;
 
 pub use action::{Action, Home, Operand, Place};
+pub use change::Change;
 pub use scope::Scope;

@@ -7,7 +7,7 @@ ghost use Rattle.direct_meaning.specs.Memory.{empty_env};
 ghost use Rattle.walk_program.specs.Names.{name_at, AreDistinct};
 ghost use Rattle.walk_program.specs.Numbered.{Operands};
 ghost use Rattle.walk_program.specs.Reading.{names_at};
-ghost use Rattle.walk_actions.specs.Looked.{env_of, homes_meant, IsTable};
+ghost use Rattle.walk_actions.specs.Looked.{env_of, homes_meant, with_known, with_home, IsTable};
 ghost use Rattle.walk_actions.specs.Meant.{operand_meant, OperandIn};
 
 use crate::action::{Home, Operand};
@@ -102,5 +102,35 @@ impl<'p> Scope<'p> {
         for name in names {
             room.push_reserved(self.number(*name));
         }
+    }
+
+    /// Gives a name a number, or none, and answers what it had.
+    #[tactic(auto, using(crate::proofs::Tables::writes))]
+    pub fn know(&mut self, name: u32, number: Option<i64>) -> Option<i64>
+        requires table { IsTable self.old }
+        requires name { name < length self.old.names.now }
+        ensures env { env_of self.new ≡ with_known (name_at self.old.names.now name) number (env_of self.old) }
+        ensures before { result ≡ (env_of self.old).known (name_at self.old.names.now name) }
+        ensures names { self.new.names.now ≡ self.old.names.now }
+        ensures table { IsTable self.new }
+    {
+        let before = self.known[name as usize];
+        self.known[name as usize] = number;
+        before
+    }
+
+    /// Lets a name stand for a memref, or for none, and answers what it stood for.
+    #[tactic(auto, using(crate::proofs::Tables::writes))]
+    pub fn stand(&mut self, name: u32, home: Option<Home>) -> Option<Home>
+        requires table { IsTable self.old }
+        requires name { name < length self.old.names.now }
+        ensures env { env_of self.new ≡ with_home (name_at self.old.names.now name) (homes_meant home) (env_of self.old) }
+        ensures before { homes_meant result ≡ (env_of self.old).home (name_at self.old.names.now name) }
+        ensures names { self.new.names.now ≡ self.old.names.now }
+        ensures table { IsTable self.new }
+    {
+        let before = self.homes[name as usize];
+        self.homes[name as usize] = home;
+        before
     }
 }

@@ -12,7 +12,7 @@ ghost use Rattle.walk_program.specs.Names.{name_at};
 ghost use Rattle.walk_program.specs.Numbered.{Operands, PlainFits};
 ghost use Rattle.walk_program.specs.Reading.{names_at, plain_of};
 ghost use Rattle.walk_actions.specs.Looked.{env_of, IsTable};
-ghost use Rattle.walk_actions.specs.Meant.{meant, operand_meant, OperandIn, NamesIn};
+ghost use Rattle.walk_actions.specs.Meant.{meant, operand_meant, OperandIn, NamesIn, NamesNone};
 ghost use Rattle.walk_actions.specs.Values.{use_of};
 
 use crate::action::{Action, Home, Operand};
@@ -37,7 +37,8 @@ pub(crate) fn elements(sizes: &[u32]) -> u32
 /// A constant: of index type its value is known where it is used.
 #[tactic(auto, unfolding(crate::specs::Meant::meant))]
 fn constant<'q>(into: u32, value: i64, ty: Scalar) -> Action<'q>
-    ensures { (names : List TheName) (subscripts : List TheOperand) → meant names subscripts result ≡ constant_of (name_at names into) value ty }
+    ensures value { (names : List TheName) (subscripts : List TheOperand) → meant names subscripts result ≡ constant_of (name_at names into) value ty }
+    ensures inside { (count : ℕ) (subscripts : List TheOperand) → into < count → NamesIn count subscripts result }
 {
     match ty {
         Scalar::Int(_) => Action::Sets { into, value },
@@ -64,7 +65,8 @@ impl<'p> Scope<'p> {
     #[tactic(auto, unfolding(crate::specs::Meant::meant), using(crate::proofs::Elements::few_memref))]
     fn alloc<'q>(&self, ty: &'q MemrefType) -> Action<'q>
         requires { IsMemref (Some (new_home (env_of self.now) ty.now)) ty.now }
-        ensures { (names : List TheName) (subscripts : List TheOperand) → meant names subscripts result ≡ alloc_of (env_of self.now) ty.now }
+        ensures value { (names : List TheName) (subscripts : List TheOperand) → meant names subscripts result ≡ alloc_of (env_of self.now) ty.now }
+        ensures inside { NamesNone result }
     {
         if ty.space == 1 {
             Action::Allocates {
@@ -86,7 +88,8 @@ impl<'p> Scope<'p> {
         requires table { IsTable self.now }
         requires memref { memref < length self.now.names.now }
         requires safe { IsMemref ((env_of self.now).home (name_at self.now.names.now memref)) ty.now }
-        ensures { (names : List TheName) (subscripts : List TheOperand) → meant names subscripts result ≡ dealloc_of ((env_of self.now).home (name_at self.now.names.now memref)) ty.now }
+        ensures value { (names : List TheName) (subscripts : List TheOperand) → meant names subscripts result ≡ dealloc_of ((env_of self.now).home (name_at self.now.names.now memref)) ty.now }
+        ensures inside { NamesNone result }
     {
         match self.home(memref) {
             Some(Home::Fast(number)) => Action::Releases {
@@ -132,6 +135,7 @@ impl<'p> Scope<'p> {
         requires count { count < length self.now.names.now }
         requires counts { IsCount ((env_of self.now).known (name_at self.now.names.now count)) }
         ensures value { (names : List TheName) (subscripts : List TheOperand) → meant names subscripts result ≡ wait_of (tag_of (env_of self.now) (name_at self.now.names.now tag) (use_of self.now at.now) ty.now) (gap (number ((env_of self.now).known (name_at self.now.names.now count)))) }
+        ensures inside { NamesNone result }
         ensures capacity { vec_capacity room.new ≡ vec_capacity room.old }
     {
         match self.tag(tag, at, ty, room) {
@@ -140,6 +144,127 @@ impl<'p> Scope<'p> {
                 count: self.count(count),
             },
             None => Action::Faults(FaultKind::Bounds),
+        }
+    }
+
+    /// The action of a statement, where this is known. The subscripts of a raw access stand in `uses` then.
+    #[tactic(auto, unfolding(crate::specs::Meant::meant, walk_program::specs::Reading::plain_of, direct_meaning::specs::Actions::action_of))]
+    pub fn action<'q>(
+        &self,
+        plain: &'q Plain,
+        room: &mut Vec<i64>,
+        uses: &mut Vec<Operand>,
+    ) -> Action<'q>
+        requires table { IsTable self.now }
+        requires names { PlainFits (length self.now.names.now) (vec_capacity room.old) plain.now }
+        requires uses { vec_capacity room.old ≤ vec_capacity uses.old }
+        requires safe { SafePlain (env_of self.now) (plain_of self.now.names.now plain.now) }
+        ensures value { meant self.now.names.now uses.new.items result ≡ action_of (plain_of self.now.names.now plain.entry.now) (env_of self.now) }
+        ensures inside { NamesIn (length self.now.names.now) uses.new.items result }
+        ensures room { vec_capacity room.new ≡ vec_capacity room.old }
+        ensures stays { vec_capacity uses.new ≡ vec_capacity uses.old }
+    {
+        match plain {
+            Plain::Value { .. } => Action::Known,
+            Plain::Load {
+                result,
+                memref,
+                at,
+                ty,
+            } => Action::Loads {
+                into: *result,
+                place: self.place(*memref, at, ty, room),
+            },
+            Plain::Store {
+                value,
+                memref,
+                at,
+                ty,
+            } => Action::Stores {
+                value: self.operand(*value),
+                place: self.place(*memref, at, ty, room),
+            },
+            Plain::RawLoad {
+                result,
+                memref,
+                at,
+                ty,
+            } => {
+                self.operands(at.as_slice(), uses);
+                Action::RawLoads {
+                    into: *result,
+                    home: self.home(*memref),
+                    sizes: ty.sizes.as_slice(),
+                }
+            }
+            Plain::RawStore {
+                value,
+                memref,
+                at,
+                ty,
+            } => {
+                self.operands(at.as_slice(), uses);
+                Action::RawStores {
+                    value: self.operand(*value),
+                    home: self.home(*memref),
+                    sizes: ty.sizes.as_slice(),
+                }
+            }
+            Plain::Constant { result, value, ty } => constant(*result, *value, *ty),
+            Plain::Binary {
+                result,
+                op,
+                left,
+                right,
+                ty,
+            } => Action::Operates {
+                into: *result,
+                op: *op,
+                ty: *ty,
+                left: self.operand(*left),
+                right: self.operand(*right),
+            },
+            Plain::Cast {
+                result,
+                kind,
+                value,
+                from,
+                to,
+            } => Action::Converts {
+                into: *result,
+                kind: *kind,
+                from: *from,
+                to: *to,
+                value: self.operand(*value),
+            },
+            Plain::Alloc { result: _, ty } => self.alloc(ty),
+            Plain::Dealloc { memref, ty } => self.dealloc(*memref, ty),
+            Plain::Start {
+                from,
+                from_at,
+                to,
+                to_at,
+                tag,
+                tag_at,
+                count,
+                stride,
+                types,
+            } => self.start(
+                (*from, from_at),
+                (*to, to_at),
+                (*tag, tag_at),
+                *count,
+                *stride,
+                types,
+                room,
+            ),
+            Plain::Wait {
+                tag,
+                tag_at,
+                count,
+                ty,
+            } => self.wait(*tag, tag_at, *count, ty, room),
+            Plain::Return => Action::Returns,
         }
     }
 }

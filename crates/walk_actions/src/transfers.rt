@@ -13,7 +13,8 @@ ghost use Rattle.walk_program.specs.Numbered.{Operands, StrideFits};
 ghost use Rattle.walk_program.specs.Reading.{names_at, stride_of};
 ghost use Rattle.walk_actions.specs.declared.action.Operand.{Operand as TheOperand};
 ghost use Rattle.walk_actions.specs.Looked.{env_of, IsTable};
-ghost use Rattle.walk_actions.specs.Meant.{meant, place_meant};
+ghost use Rattle.walk_actions.specs.Meant.{meant, place_meant, NamesNone};
+ghost use Rattle.walk_actions.specs.Values.{use_of};
 ghost use Rattle.walk_actions.specs.Transfers.{layout_meant, transfer_at, AreChunks, IsEnd, home_at, place_at_end, tag_at_end};
 
 use crate::action::{Action, Home, Place};
@@ -104,7 +105,8 @@ fn started<'q>(
     cells: u32,
 ) -> Action<'q>
     requires { AreChunks chunks }
-    ensures { (names : List TheName) (subscripts : List TheOperand) → meant names subscripts result ≡ started (transfer_at incoming tag memref base chunks fast half offset) end cells }
+    ensures value { (names : List TheName) (subscripts : List TheOperand) → meant names subscripts result ≡ started (transfer_at incoming tag memref base chunks fast half offset) end cells }
+    ensures inside { NamesNone result }
 {
     if chunks.last_place(base) >= end as u128 {
         return Action::Faults(FaultKind::Bounds);
@@ -147,7 +149,8 @@ fn transfer<'q>(
     requires rank { 1 ≤ length fast_ty.now.sizes }
     requires fast { product fast_ty.now.sizes < 2 ^ 32 }
     requires fast_sizes { All (λ n. 1 ≤ n) fast_ty.now.sizes }
-    ensures { (names : List TheName) (subscripts : List TheOperand) → meant names subscripts result ≡ transfer_of incoming memref first slow_ty.now fast_ty.now (layout_meant chunks) (place_meant slow) (place_meant fast) tag }
+    ensures value { (names : List TheName) (subscripts : List TheOperand) → meant names subscripts result ≡ transfer_of incoming memref first slow_ty.now fast_ty.now (layout_meant chunks) (place_meant slow) (place_meant fast) tag }
+    ensures inside { NamesNone result }
 {
     let Place::Slow(base) = slow else {
         return Action::Faults(FaultKind::Bounds);
@@ -191,6 +194,7 @@ impl<'p> Scope<'p> {
         requires spaces { from.ty.now.space + to.ty.now.space ≡ 1 }
         requires chunks { AreChunks chunks }
         ensures value { (names : List TheName) (subscripts : List TheOperand) → meant names subscripts result ≡ start_between (home_at self.now from.entry) (home_at self.now to.entry) (place_at_end self.now from.entry) (place_at_end self.now to.entry) from.entry.ty.now to.entry.ty.now (layout_meant chunks) (tag_at_end self.now tag.entry) }
+        ensures inside { NamesNone result }
         ensures capacity { vec_capacity room.new ≡ vec_capacity room.old }
     {
         let from_place = self.place(from.memref, from.at, from.ty, room);
@@ -203,5 +207,50 @@ impl<'p> Scope<'p> {
             return transfer(false, memref, first, to.ty, from.ty, chunks, to_place, from_place, number);
         }
         Action::Faults(FaultKind::Bounds)
+    }
+
+    /// The action of a start.
+    #[tactic(auto, unfolding(crate::specs::Meant::meant))]
+    pub(crate) fn start<'q>(
+        &self,
+        from: (u32, &Subscripts),
+        to: (u32, &Subscripts),
+        tag: (u32, &Subscripts),
+        count: u32,
+        stride: Option<(u32, u32)>,
+        types: &[MemrefType; 3],
+        room: &mut Vec<i64>,
+    ) -> Action<'q>
+        requires table { IsTable self.now }
+        requires from { (from.0 < length self.now.names.now) × Operands (length self.now.names.now) (vec_capacity room.old) from.1.now.operands }
+        requires to { (to.0 < length self.now.names.now) × Operands (length self.now.names.now) (vec_capacity room.old) to.1.now.operands }
+        requires tag { (tag.0 < length self.now.names.now) × Operands (length self.now.names.now) (vec_capacity room.old) tag.1.now.operands }
+        requires name { count < length self.now.names.now }
+        requires names { StrideFits (length self.now.names.now) stride }
+        requires types { SafeTypes (env_of self.now) (name_at self.now.names.now from.0) (use_of self.now from.1.now) (name_at self.now.names.now to.0) (use_of self.now to.1.now) (name_at self.now.names.now tag.0) (use_of self.now tag.1.now) types.now }
+        requires count { IsCount ((env_of self.now).known (name_at self.now.names.now count)) }
+        requires safe { SafeChunks (env_of self.now) (stride_of self.now.names.now stride) }
+        ensures value { (names : List TheName) (subscripts : List TheOperand) → meant names subscripts result ≡ start_of (env_of self.now) (name_at self.now.names.now from.entry.0) (use_of self.now from.entry.1.now) (name_at self.now.names.now to.entry.0) (use_of self.now to.entry.1.now) (name_at self.now.names.now tag.entry.0) (use_of self.now tag.entry.1.now) (layout_of (env_of self.now) (name_at self.now.names.now count) (stride_of self.now.names.now stride)) types.now }
+        ensures inside { NamesNone result }
+        ensures capacity { vec_capacity room.new ≡ vec_capacity room.old }
+    {
+        let [from_ty, to_ty, tag_ty] = types;
+        let chunks = self.chunks(count, stride);
+        let from = End {
+            memref: from.0,
+            at: from.1,
+            ty: from_ty,
+        };
+        let to = End {
+            memref: to.0,
+            at: to.1,
+            ty: to_ty,
+        };
+        let tag = End {
+            memref: tag.0,
+            at: tag.1,
+            ty: tag_ty,
+        };
+        self.start_between(from, to, tag, chunks, room)
     }
 }

@@ -57,9 +57,13 @@ uses_in (Loop line v l u s body rest) = v ∷ uses_in_bound l ++ (uses_in_bound 
 uses_in (Branch line set names first has other rest) = names ++ (uses_in first ++ (uses_in other ++ uses_in rest))
 uses_in (Does line p rest) = uses_in_plain p ++ uses_in rest
 
+-- the names of arguments, in order
+abbrev pub uses_of_arguments : List Arg → List Name
+uses_of_arguments args = map (λ (arg : Arg). arg.name) args
+
 -- the names in a module: those of its arguments, and then those in its body
 abbrev pub uses_of : Module → List Name
-uses_of m = map (λ (arg : Arg). arg.name) m.args ++ uses_in (nest m.body)
+uses_of m = uses_of_arguments m.args ++ uses_in (nest m.body)
 
 -- the names in a module, each once, in the order of first use
 unfoldable pub names_of : Module → List Name

@@ -7,10 +7,16 @@
 //! `affine_ast`, `affine_expr`, `int_ops`, `direct_meaning` (for the counts of allocations), `sqlite_items` and `indexmap`.
 #![tactic(auto)]
 
+mod counts;
+mod making;
+mod numbering;
 mod plain;
+mod plains;
 mod program;
+mod regions;
 mod statement;
 
+pub use making::make;
 pub use plain::{Limit, Plain, Subscripts};
 pub use program::{Argument, Program};
 pub use statement::{Counts, Form, Statement};
