@@ -1,6 +1,6 @@
 -- Sums and products that stay at a limit.
 use Rattle.std.specs.Prelude.{nat_le}
-use Rattle.std.proofs.Common.{◌≡◌, Bool, true, false, ℕ, zero, suc, ◌+◌, ◌*◌, ◌^◌, ◌≤◌, ◌<◌, ◌⊎◌, inl, inr, min, max, refl, sym, ap, ◌∙◌, arith}
+use Rattle.std.proofs.Common.{◌≡◌, Bool, true, false, ℕ, zero, suc, ◌+◌, ◌*◌, ◌≤◌, ◌⊎◌, inl, inr, min, max, refl, sym, ap, ◌∙◌, arith}
 
 -- a sum whose first part is cut at the limit
 pub sum_cut : (a b m : ℕ) → min (min a m + b) m ≡ min (a + b) m

@@ -7,7 +7,7 @@ use Rattle.affine_ast.specs.declared.types.Access.{Access}
 use Rattle.affine_ast.specs.Rules.{has_interval}
 use Rattle.valid_laws.specs.Bounded.{BoundedAccess}
 use Rattle.affine_expr.specs.Spread.{range_of}
-use Rattle.std.specs.Prelude.{◌&&◌, Option, Some, None, if◌then◌else◌, pos}
+use Rattle.std.specs.Prelude.{◌&&◌, Option, Some, if◌then◌else◌, pos}
 use Rattle.std.specs.Str.{bytes_eq}
 use Rattle.std.specs.Map.{lookup}
 use Rattle.std.proofs.lemmas.Bool.{and_parts}

@@ -1,5 +1,5 @@
 -- The work of a valid module can be counted.
-use Rattle.std.proofs.Common.{◌≡◌, ℤ, pos, ◌<ℤ◌, true, refl, arith}
+use Rattle.std.proofs.Common.{◌≡◌, ℤ, pos, ◌<ℤ◌, true, arith}
 use Rattle.std.specs.Prelude.{◌&&◌}
 use Rattle.std.proofs.lemmas.Bool.{and_parts}
 use Rattle.std.proofs.lemmas.Int.{ints}
@@ -16,7 +16,7 @@ use Rattle.direct_meaning.specs.Work.{ranges_after, start_ranges}
 use Rattle.valid_laws.specs.Bounded.{BoundedBound, BoundedPlain, BoundedNest}
 use Rattle.valid_laws.proofs.Passing.{judged_passed, then_passed, plain_holds, loop_holds, valid_passes}
 use Rattle.valid_laws.proofs.Reach.{valid_bounded}
-use Rattle.module_work.specs.Workable.{WorkableAccess, WorkableBound, WorkablePlain, Workable}
+use Rattle.module_work.specs.Workable.{WorkableBound, WorkablePlain, Workable}
 
 bound_workable : (rho : Ranges) (b : Bound) → bound_fits b ≡ true → bound_pure b ≡ true → BoundedBound rho b → WorkableBound rho b
 bound_workable rho (bound.Int z) f p b = tt

@@ -1,5 +1,5 @@
 -- The size of a text, by which the walk over it ends.
-use Rattle.std.proofs.Common.{◌≡◌, ℕ, zero, suc, ◌+◌, ◌<◌, ◌≤◌, ℤ, Bool, List, [], ◌∷◌, drop, length, get_or, refl, sym, ap, ◌∙◌, arith}
+use Rattle.std.proofs.Common.{◌≡◌, ℕ, zero, suc, ◌+◌, ◌<◌, ◌≤◌, ℤ, List, [], ◌∷◌, drop, length, get_or, refl, ap, ◌∙◌, arith}
 use Rattle.std.specs.Prelude.{Option, Some, None}
 use Rattle.affine_expr.specs.declared.map.Set.{Set}
 use Rattle.affine_ast.specs.declared.name.Name.{Name}
@@ -8,7 +8,7 @@ use Rattle.affine_ast.specs.declared.stmt.Stmt.{Stmt}
 use Rattle.affine_ast.specs.declared.stmt.What as what
 use Rattle.affine_ast.specs.declared.stmt.What.{What}
 use Rattle.affine_ast.specs.Nest.{Nest, Nothing, Loop, Branch, Does, followed_by, nest, put_what}
-use Rattle.affine_ast.proofs.Nests.{nest-nil, nest-cons, put-For, put-If, put-If-else, put-followed}
+use Rattle.affine_ast.proofs.Nests.{nest-cons, put-For, put-If, put-If-else, put-followed}
 use Rattle.module_work.proofs.Works.{nest_step}
 
 -- one for each statement and for the end of each region

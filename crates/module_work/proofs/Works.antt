@@ -1,5 +1,5 @@
 -- The work of statements, step by step.
-use Rattle.std.proofs.Common.{◌≡◌, ℕ, zero, suc, ◌+◌, ◌*◌, ◌<◌, ◌≤◌, ◌^◌, min, max, ℤ, pos, ◌<ℤ◌, true, false, List, [], ◌∷◌, drop, length, get_or, refl, sym, ap, ◌∙◌, subst, arith, rules, lit≤}
+use Rattle.std.proofs.Common.{◌≡◌, ℕ, zero, suc, ◌+◌, ◌*◌, ◌<◌, ◌≤◌, ◌^◌, max, ℤ, pos, ◌<ℤ◌, false, List, [], ◌∷◌, drop, length, get_or, refl, sym, ap, ◌∙◌, subst, arith, lit≤}
 use Rattle.std.specs.Prelude.{Option, Some, None, Result, Ok, Err, IfOk, OnOk}
 use Rattle.std.proofs.lemmas.List.{drop_more}
 use Rattle.affine_expr.specs.declared.map.Set.{Set}
@@ -23,7 +23,6 @@ use Rattle.module_work.specs.Saturated.{saturated}
 use Rattle.module_work.specs.Steps.{range_of_constant, Does, Steps}
 use Rattle.module_work.specs.Workable.{WorkableBound, WorkablePlain, Workable}
 use Rattle.module_work.proofs.Saturation.{sum_cut, sum_cut_right, product_cut}
-use Rattle.module_work.proofs.Tables.{put_twice}
 use Rattle.module_work.specs.declared.ranges.Before.{Before}
 use Rattle.module_work.specs.Table.{put_back}
 

@@ -1,12 +1,11 @@
 -- Registers by number, as the values of names.
 use Rattle.std.proofs.Common.{◌≡◌, ℕ, zero, suc, ◌<◌, ◌≤◌, subst, ℤ, pos, List, [], ◌∷◌, length, map, get_or, set, refl, sym, ap, ◌∙◌, arith, Bool, true, false}
 use mathlib.Core.Path.{fun_ext}
-use Rattle.std.specs.Prelude.{Option, Some, None, replicate, slice_index_or, slice_set}
+use Rattle.std.specs.Prelude.{Option, Some, None, replicate}
 use Rattle.affine_ast.specs.declared.name.Name.{Name}
 use Rattle.affine_ast.specs.Names.{same_name, put}
 use Rattle.affine_ast.proofs.Names.{put-same, put-other}
 use Rattle.direct_meaning.specs.Static.{number}
-use Rattle.direct_meaning.specs.Direct.{State, keep, write}
 use Rattle.walk_program.specs.Names.{name_at, AreDistinct}
 use Rattle.walk_actions.specs.Looked.{looked}
 use Rattle.walk_actions.proofs.Tables.{looked_at, looked_set}
@@ -74,10 +73,10 @@ same_machine a b s t = record {
     old_name k = ap (λ ns. name_at ns k) (sym s.names)
 
 pub same_self : (a : Machine) → Same a a
-same_self a = record { names = refl; registers = refl; room = refl }
+same_self a = record { names = refl; registers = refl; slow = refl; room = refl }
 
 pub same_twice : (a b c : Machine) → Same a b → Same b c → Same a c
-same_twice a b c s t = record { names = t.names ∙ s.names; registers = t.registers ∙ s.registers; room = t.room ∙ s.room }
+same_twice a b c s t = record { names = t.names ∙ s.names; registers = t.registers ∙ s.registers; slow = t.slow ∙ s.slow; room = t.room ∙ s.room }
 
 -- a register written
 pub kept_state : (m : Machine) (k : ℕ) (z : ℤ) (values : List ℤ) → IsMachine m → k < length m.names.now → values ≡ set m.registers.items k z → (λ n. held m.names.now values n) ≡ put (state_at m).registers (name_at m.names.now k) z

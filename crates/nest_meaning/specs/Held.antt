@@ -1,5 +1,5 @@
 -- What a machine by number holds, as the state of the direct meaning.
-use Rattle.std.specs.Prelude.{◌≡◌, ℕ, ◌≤◌, ◌<◌, ℤ, List, map, length, Option, Some, None}
+use Rattle.std.specs.Prelude.{◌≡◌, ℕ, ◌≤◌, ℤ, List, map, length, Option, Some, None}
 use Rattle.affine_ast.specs.declared.name.Name.{Name}
 use Rattle.direct_meaning.specs.Action.{Place, Slow, Outside}
 use Rattle.direct_meaning.specs.Direct.{State}
@@ -21,10 +21,11 @@ pub record IsMachine (m : Machine) : Type 0 where
   pub registers : length m.registers.items ≡ length m.names.now
   pub room : 7 ≤ m.subscripts.capacity
 
--- a machine for the same names
+-- a machine for the same names, with as large a memory
 pub record Same (old new : Machine) : Type 0 where
   pub names : new.names.now ≡ old.names.now
   pub registers : length new.registers.items ≡ length old.registers.items
+  pub slow : length new.slow.items ≡ length old.slow.items
   pub room : new.subscripts.capacity ≡ old.subscripts.capacity
 
 -- a slow place, or none where a subscript is outside its size

@@ -10,7 +10,7 @@ mod elements;
 mod image;
 mod machine;
 mod operations;
-// mod plain;
+mod plain;
 
 pub use module_work::work;
-// pub use plain::run_plain;
+pub use plain::run_plain;

@@ -1,8 +1,6 @@
-use Rattle.std.proofs.Common.{◌≡◌}
 use Rattle.std.specs.Prelude.{Result, Ok, Err, OnOk}
-use Rattle.affine_ast.specs.Names.{put}
 use Rattle.affine_expr.specs.Bounded.{range_at}
-use Rattle.module_work.specs.Table.{ranges_of, put_back}
+use Rattle.module_work.specs.Table.{ranges_of}
 use Rattle.module_work.proofs.Tables.{kept_one}
 use Rattle.module_work.proofs.ranges.define.Goals as goal
 

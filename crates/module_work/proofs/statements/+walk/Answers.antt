@@ -1,9 +1,8 @@
-use Rattle.std.proofs.Common.{◌≡◌, ◌∙◌, ◌+◌, ◌^◌, ◌≤◌, sym, ap, subst, refl, arith, rules, w64, SFits, min, ◌<ℤ◌, pos}
+use Rattle.std.proofs.Common.{◌≡◌, ◌∙◌, ◌+◌, sym, ap, subst, arith, rules, w64, SFits, ◌<ℤ◌, pos}
 use Rattle.std.specs.Prelude.{IfOk}
 use Rattle.std.proofs.lemmas.Int.{to_z-of_z}
 use Rattle.affine_expr.specs.Bounded.{range_at}
-use Rattle.affine_ast.specs.Intervals.{first_turn, last_end, turn_range}
-use Rattle.affine_ast.specs.Names.{put}
+use Rattle.affine_ast.specs.Intervals.{first_turn, last_end}
 use Rattle.affine_ast.specs.Nest.{Nothing, nest, put_what}
 use Rattle.affine_ast.specs.declared.stmt.What as what
 use Rattle.affine_verify.specs.Plains.{is_region}
@@ -14,7 +13,7 @@ use Rattle.module_work.specs.Table.{ranges_of, put_back}
 use Rattle.module_work.specs.Workable.{Workable}
 use Rattle.module_work.proofs.Tables.{ranges_back}
 use Rattle.module_work.proofs.Weights.{lighter_statement, lighter_body, lighter_first, lighter_other}
-use Rattle.module_work.proofs.Works.{plain_workable, inner, loop_workable, loop_steps, first_workable, other_workable, if_steps, if_else_ok, kept_region, small_total, list_asks, list_step, list_passes, list_end}
+use Rattle.module_work.proofs.Works.{plain_workable, loop_workable, loop_steps, first_workable, other_workable, if_steps, if_else_ok, kept_region, small_total, list_asks, list_step, list_passes, list_end}
 use Rattle.module_work.proofs.statements.+walk.Goals as goal
 
 pub list-statement-requires : goal.list-statement-requires

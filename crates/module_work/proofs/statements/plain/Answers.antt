@@ -1,7 +1,6 @@
-use Rattle.std.proofs.Common.{◌∙◌, ◌+◌, sym, ap, subst, refl, pos, rules, w64, SFits}
+use Rattle.std.proofs.Common.{◌∙◌, ◌+◌, ap, subst, refl, rules, w64, SFits}
 use Rattle.std.proofs.lemmas.Int.{to_z-of_z}
 use Rattle.affine_ast.specs.Names.{put}
-use Rattle.affine_ast.specs.Nest.{Plain}
 use Rattle.affine_expr.specs.Spread.{Range}
 use Rattle.affine_verify.specs.Plains.{plain_of}
 use Rattle.affine_verify.proofs.Plains.{plain-Value, plain-Load, plain-Store, plain-RawLoad, plain-RawStore, plain-Constant, plain-Binary, plain-Cast, plain-Alloc, plain-Dealloc, plain-Start, plain-Wait, plain-Return, plain-For, plain-If}

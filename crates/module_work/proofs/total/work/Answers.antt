@@ -1,10 +1,7 @@
-use Rattle.std.proofs.Common.{◌≡◌, ◌∙◌, ◌+◌, ◌^◌, ap, sym, subst, min, arith, pos, []}
-use Rattle.std.specs.Prelude.{Result, Ok, Err, IfOk, fold}
-use Rattle.affine_expr.specs.Spread.{only}
-use Rattle.affine_ast.specs.declared.module.Module.{Module}
+use Rattle.std.proofs.Common.{◌∙◌, sym, subst}
+use Rattle.std.specs.Prelude.{fold}
 use Rattle.affine_ast.specs.Nest.{nest}
-use Rattle.direct_meaning.specs.Work.{Ranges, arg_ranges, start_ranges, full_work, work}
-use Rattle.module_work.specs.Saturated.{saturated}
+use Rattle.direct_meaning.specs.Work.{arg_ranges}
 use Rattle.module_work.specs.Table.{ranges_of}
 use Rattle.module_work.specs.Workable.{Workable}
 use Rattle.module_work.proofs.Tables.{ranges_empty}

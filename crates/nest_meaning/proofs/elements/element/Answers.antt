@@ -1,6 +1,5 @@
-use Rattle.std.proofs.Common.{rules, ◌∙◌, ◌+◌, ap, sym, arith, get_or, pos, w64, SFits}
+use Rattle.std.proofs.Common.{rules, ◌∙◌, ◌+◌, sym, arith, get_or, pos, w64, SFits}
 use Rattle.std.proofs.lemmas.Int.{to_z-of_z}
-use Rattle.direct_meaning.specs.Static.{within}
 use Rattle.walk_actions.proofs.Cells.{cell_more, cell_none, cell_bound, cell_below}
 use Rattle.nest_meaning.proofs.elements.element.Goals as goal
 

@@ -1,4 +1,4 @@
-use Rattle.std.proofs.Common.{rules, ◌∙◌, ap, sym, set, get_or, pos, w64, SFits, refl}
+use Rattle.std.proofs.Common.{rules, ◌∙◌, ap, set, get_or, pos, w64, SFits, refl}
 use Rattle.std.proofs.lemmas.Int.{to_z-of_z}
 use Rattle.nest_meaning.proofs.Memories.{filled_more, filled_at, filled_all}
 use Rattle.nest_meaning.proofs.image.fill.Goals as goal

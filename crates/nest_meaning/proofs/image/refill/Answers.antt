@@ -1,4 +1,4 @@
-use Rattle.std.proofs.Common.{◌≡◌, ◌<◌, ◌≤◌, ◌∙◌, ◌++◌, take, drop, ap, sym, refl, length, arith}
+use Rattle.std.proofs.Common.{◌<◌, ◌≤◌, ◌∙◌, take, drop, ap, refl, length, arith}
 use Rattle.std.proofs.lemmas.List.{length-set}
 use Rattle.nest_meaning.proofs.Memories.{refilled_more, refilled_end, room_here, room_behind}
 use Rattle.nest_meaning.proofs.image.refill.Goals as goal

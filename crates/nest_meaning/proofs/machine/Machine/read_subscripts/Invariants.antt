@@ -1,7 +1,7 @@
 use Rattle.std.proofs.Common.{◌≡◌, take, map}
 use Rattle.direct_meaning.specs.Direct.{read}
 use Rattle.walk_actions.specs.Meant.{operand_meant}
-use Rattle.nest_meaning.specs.Held.{state_at, IsMachine, Same}
+use Rattle.nest_meaning.specs.Held.{state_at}
 use Rattle.nest_meaning.proofs.machine.Machine.read_subscripts.Given as goal
 
 abbrev pub invariant-loop-operand : goal.invariant-loop-operand
