@@ -67,17 +67,17 @@ impl<'a> Tokens<'a> {
     pub fn number(&mut self, state: &mut State) -> Result<Expr, Refusal>
         ensures { Reads result (take_by (tok.number state.old) self.old) state.new self.new }
     {
-        match self.rest {
-            [first, rest @ ..] => match first.kind {
+        match self.next {
+            Some(first) => match first.kind {
                 Kind::Int(n) if !is_full(state) && n <= 9_223_372_036_854_775_807 => {
-                    self.rest = rest;
+                    self.next = self.rest.next_token();
                     state.operands += 1;
                     state.total += 1;
                     Ok(Expr::Const(n as i64))
                 }
                 _ => Err(Refusal::Here),
             },
-            [] => Err(Refusal::Here),
+            None => Err(Refusal::Here),
         }
     }
 
@@ -85,17 +85,17 @@ impl<'a> Tokens<'a> {
     pub fn negative_number(&mut self, state: &mut State) -> Result<Expr, Refusal>
         ensures { Reads result (take_by (tok.negative_number state.old) self.old) state.new self.new }
     {
-        match self.rest {
-            [first, rest @ ..] => match first.kind {
+        match self.next {
+            Some(first) => match first.kind {
                 Kind::Int(n) if !is_full(state) && n <= 9_223_372_036_854_775_808 => {
-                    self.rest = rest;
+                    self.next = self.rest.next_token();
                     state.operands += 1;
                     state.total += 1;
                     Ok(Expr::Const(negated(n)))
                 }
                 _ => Err(Refusal::Here),
             },
-            [] => Err(Refusal::Here),
+            None => Err(Refusal::Here),
         }
     }
 
@@ -103,18 +103,18 @@ impl<'a> Tokens<'a> {
     pub fn parameter(&mut self, state: &mut State) -> Result<Expr, Refusal>
         ensures { Reads result (take_by (tok.parameter state.old) self.old) state.new self.new }
     {
-        match self.rest {
-            [first, rest @ ..] => match first.kind {
+        match self.next {
+            Some(first) => match first.kind {
                 Kind::Word if !is_full(state) => {
-                    let leaf = parameter_of(bytes_of(self.source, *first), state)?;
-                    self.rest = rest;
+                    let leaf = parameter_of(bytes_of(self.source, first), state)?;
+                    self.next = self.rest.next_token();
                     state.operands += 1;
                     state.total += 1;
                     Ok(leaf)
                 }
                 _ => Err(Refusal::Here),
             },
-            [] => Err(Refusal::Here),
+            None => Err(Refusal::Here),
         }
     }
 
@@ -122,19 +122,19 @@ impl<'a> Tokens<'a> {
     pub fn dimension(&mut self, alloc: Global, state: &mut State) -> Result<Expr, Refusal>
         ensures { Reads result (take_by (tok.dimension state.old) self.old) state.new self.new }
     {
-        match self.rest {
-            [first, rest @ ..] => match first.kind {
+        match self.next {
+            Some(first) => match first.kind {
                 Kind::Value if !is_full(state) => {
-                    let text = behind_first(bytes_of(self.source, *first));
+                    let text = behind_first(bytes_of(self.source, first));
                     let number = appearing(alloc, text, &mut state.dims)?;
-                    self.rest = rest;
+                    self.next = self.rest.next_token();
                     state.operands += 1;
                     state.total += 1;
                     Ok(Expr::Dim(number))
                 }
                 _ => Err(Refusal::Here),
             },
-            [] => Err(Refusal::Here),
+            None => Err(Refusal::Here),
         }
     }
 
@@ -143,16 +143,16 @@ impl<'a> Tokens<'a> {
         ensures word { Takes result (take_by (tok.symbol_word state.now) self.old) self.new }
         ensures open { OnOk result (tok.is_full state.now ≡ false) }
     {
-        match self.rest {
-            [first, rest @ ..] => match first.kind {
+        match self.next {
+            Some(first) => match first.kind {
                 Kind::Word
-                    if !is_full(state) && bytes_of(self.source, *first) == b"symbol".as_slice() => {
-                    self.rest = rest;
+                    if !is_full(state) && bytes_of(self.source, first) == b"symbol".as_slice() => {
+                    self.next = self.rest.next_token();
                     Ok(())
                 }
                 _ => Err(Refusal::Here),
             },
-            [] => Err(Refusal::Here),
+            None => Err(Refusal::Here),
         }
     }
 
@@ -161,19 +161,19 @@ impl<'a> Tokens<'a> {
         requires { tok.is_full state.old ≡ false }
         ensures { Reads result (take_by (tok.symbol state.old) self.old) state.new self.new }
     {
-        match self.rest {
-            [first, rest @ ..] => match first.kind {
+        match self.next {
+            Some(first) => match first.kind {
                 Kind::Value => {
-                    let text = behind_first(bytes_of(self.source, *first));
+                    let text = behind_first(bytes_of(self.source, first));
                     let number = appearing(alloc, text, &mut state.syms)?;
-                    self.rest = rest;
+                    self.next = self.rest.next_token();
                     state.operands += 1;
                     state.total += 1;
                     Ok(Expr::Sym(number))
                 }
                 _ => Err(Refusal::Here),
             },
-            [] => Err(Refusal::Here),
+            None => Err(Refusal::Here),
         }
     }
 
@@ -181,20 +181,20 @@ impl<'a> Tokens<'a> {
     pub fn fresh(&mut self, alloc: Global, dims: &[Name], names: &[Name]) -> Result<Name, Refusal>
         ensures { Takes result (take_by (tok.fresh (dims.now ++ names.now)) self.old) self.new }
     {
-        match self.rest {
-            [first, rest @ ..] => match first.kind {
+        match self.next {
+            Some(first) => match first.kind {
                 Kind::Word => {
-                    let text = bytes_of(self.source, *first);
+                    let text = bytes_of(self.source, first);
                     if is_known(text, dims, names) {
                         return Err(Refusal::Here);
                     }
                     let name = named(alloc, text)?;
-                    self.rest = rest;
+                    self.next = self.rest.next_token();
                     Ok(name)
                 }
                 _ => Err(Refusal::Here),
             },
-            [] => Err(Refusal::Here),
+            None => Err(Refusal::Here),
         }
     }
 
@@ -202,15 +202,15 @@ impl<'a> Tokens<'a> {
     pub fn comma(&mut self, most: usize, several: bool, count: usize) -> Result<(), Refusal>
         ensures { Takes result (take_by (tok.comma_within most several count) self.old) self.new }
     {
-        match self.rest {
-            [first, rest @ ..] => match first.kind {
+        match self.next {
+            Some(first) => match first.kind {
                 Kind::Punct(b',') if several && count < most => {
-                    self.rest = rest;
+                    self.next = self.rest.next_token();
                     Ok(())
                 }
                 _ => Err(Refusal::Here),
             },
-            [] => Err(Refusal::Here),
+            None => Err(Refusal::Here),
         }
     }
 
@@ -218,20 +218,20 @@ impl<'a> Tokens<'a> {
     pub fn new_alias(&mut self, alloc: Global, aliases: &[Alias]) -> Result<Text, Refusal>
         ensures { Takes result (take_by (tok.new_alias aliases.now) self.old) self.new }
     {
-        match self.rest {
-            [first, rest @ ..] => match first.kind {
+        match self.next {
+            Some(first) => match first.kind {
                 Kind::Alias => {
-                    let text = behind_first(bytes_of(self.source, *first));
+                    let text = behind_first(bytes_of(self.source, first));
                     if alias_in(text, aliases).is_some() {
                         return Err(Refusal::Here);
                     }
                     let name = text_of(alloc, text)?;
-                    self.rest = rest;
+                    self.next = self.rest.next_token();
                     Ok(name)
                 }
                 _ => Err(Refusal::Here),
             },
-            [] => Err(Refusal::Here),
+            None => Err(Refusal::Here),
         }
     }
 
@@ -245,20 +245,20 @@ impl<'a> Tokens<'a> {
     ) -> Result<(Map, u32), Refusal>
         ensures { Takes result (take_by (tok.alias_map aliases.now several total) self.old) self.new }
     {
-        match self.rest {
-            [first, rest @ ..] => match first.kind {
+        match self.next {
+            Some(first) => match first.kind {
                 Kind::Alias => {
-                    let text = behind_first(bytes_of(self.source, *first));
+                    let text = behind_first(bytes_of(self.source, first));
                     let Some(alias) = alias_in(text, aliases) else {
                         return Err(Refusal::Here);
                     };
                     let read = map_of(alloc, alias, several, total)?;
-                    self.rest = rest;
+                    self.next = self.rest.next_token();
                     Ok(read)
                 }
                 _ => Err(Refusal::Here),
             },
-            [] => Err(Refusal::Here),
+            None => Err(Refusal::Here),
         }
     }
 
@@ -271,20 +271,20 @@ impl<'a> Tokens<'a> {
     ) -> Result<(Set, u32), Refusal>
         ensures { Takes result (take_by (tok.alias_set aliases.now total) self.old) self.new }
     {
-        match self.rest {
-            [first, rest @ ..] => match first.kind {
+        match self.next {
+            Some(first) => match first.kind {
                 Kind::Alias => {
-                    let text = behind_first(bytes_of(self.source, *first));
+                    let text = behind_first(bytes_of(self.source, first));
                     let Some(alias) = alias_in(text, aliases) else {
                         return Err(Refusal::Here);
                     };
                     let read = set_of(alloc, alias, total)?;
-                    self.rest = rest;
+                    self.next = self.rest.next_token();
                     Ok(read)
                 }
                 _ => Err(Refusal::Here),
             },
-            [] => Err(Refusal::Here),
+            None => Err(Refusal::Here),
         }
     }
 }
