@@ -12,7 +12,7 @@ use affine_grammar::{Alias, Body};
 use expression_text::{map0, memref, set0, signed};
 use sqlite_items::Items;
 use std::alloc::Global;
-use token_cursor::{Refusal, Tokens};
+use token_cursor::{Refusal, Tokens, fitted};
 
 /// How many regions may stand inside the function's, one inside the other.
 const LEVELS: u32 = 39;
@@ -110,7 +110,7 @@ fn arguments(alloc: Global, tokens: &mut Tokens<'_>) -> Result<Items<Arg>, Refus
     }
     let args = some_arguments(alloc, tokens)?;
     tokens.sign(b')')?;
-    Ok(args)
+    Ok(fitted(alloc, args)?)
 }
 
 /// The statements of the function, the last of which is its `return`.

@@ -14,7 +14,7 @@ use affine_grammar::{Action, Alias};
 use expression_text::{operands, some_set};
 use sqlite_items::Items;
 use std::alloc::Global;
-use token_cursor::{Refusal, Tokens};
+use token_cursor::{Refusal, Tokens, fitted};
 
 /// The statements between braces, and the operands of the module up to their end. One region too many is refused at its
 /// brace.
@@ -35,9 +35,9 @@ fn region(
         return Ok((Items::new(alloc), total));
     }
     tokens.sign(b'{')?;
-    let read = statements(alloc, tokens, aliases, left - 1, total)?;
+    let (statements, total) = statements(alloc, tokens, aliases, left - 1, total)?;
     tokens.sign(b'}')?;
-    Ok(read)
+    Ok((fitted(alloc, statements)?, total))
 }
 
 /// The statements of a region, within which `left` more may stand inside one another.

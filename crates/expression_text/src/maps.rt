@@ -14,7 +14,7 @@ use affine_expr::{Constraint, Expr, Map, Set};
 use affine_grammar::{Alias, Leaves, Scope, State};
 use sqlite_items::Items;
 use std::alloc::Global;
-use token_cursor::{Refusal, Tokens, numbered};
+use token_cursor::{Refusal, Tokens, fitted, numbered};
 
 /// The most results of a map, and rows of a set.
 const RESULTS: usize = 8;
@@ -150,7 +150,7 @@ fn results(
     tokens.sign(b'(')?;
     let results = some_results(alloc, tokens, Leaves::Parameters, several, state)?;
     tokens.sign(b')')?;
-    Ok(results)
+    Ok(fitted(alloc, results)?)
 }
 
 /// What the expressions over these parameters are read with.
@@ -250,7 +250,7 @@ fn rows(
     tokens.sign(b'(')?;
     let rows = some_rows(alloc, tokens, state)?;
     tokens.sign(b')')?;
-    Ok(rows)
+    Ok(fitted(alloc, rows)?)
 }
 
 /// A set, and the operands of the module up to its end.
@@ -355,7 +355,7 @@ pub fn operands(
 {
     let mut operands = values(alloc, tokens, b'(', b')', dims)?;
     operands.append(symbol_values(alloc, tokens, syms)?)?;
-    Ok(operands)
+    Ok(fitted(alloc, operands)?)
 }
 
 #[tactic(auto, unfolding(affine_grammar::specs::Reading::some_map))]
@@ -407,7 +407,11 @@ pub fn use_of(
 }
 
 /// The map of subscripts: its dimensions and symbols are the values that have stood.
-fn access_of(results: Items<Expr>, state: State) -> Result<(Access, u32), Refusal>
+fn access_of(
+    alloc: Global,
+    results: Items<Expr>,
+    state: State,
+) -> Result<(Access, u32), Refusal>
     ensures { MatchResult result (λ read. read ≡ access_with (results, state)) (λ refusal. refusal ≡ Memory) }
 {
     let State {
@@ -422,6 +426,7 @@ fn access_of(results: Items<Expr>, state: State) -> Result<(Access, u32), Refusa
         results,
     };
     operands.append(syms)?;
+    let operands = fitted(alloc, operands)?;
     Ok((Access { map, operands }, total))
 }
 
@@ -439,7 +444,7 @@ fn subscript_list(
     }
     let results = some_results(alloc, tokens, Leaves::Values, true, state)?;
     tokens.sign(b']')?;
-    Ok(results)
+    Ok(fitted(alloc, results)?)
 }
 
 #[tactic(auto, unfolding(affine_grammar::specs::Reading::subscripts))]
@@ -458,7 +463,7 @@ pub fn subscripts(
         syms: Items::new(alloc),
     };
     let results = subscript_list(alloc, tokens, &mut state)?;
-    access_of(results, state)
+    access_of(alloc, results, state)
 }
 
 #[tactic(auto, using(affine_grammar::proofs::Steps::value_more, affine_grammar::proofs::Steps::value_done, affine_grammar::proofs::Steps::value_shorter))]
@@ -484,5 +489,5 @@ pub fn brackets(alloc: Global, tokens: &mut Tokens<'_>) -> Result<Items<Name>, R
     }
     let values = some_values(alloc, tokens)?;
     tokens.sign(b']')?;
-    Ok(values)
+    Ok(fitted(alloc, values)?)
 }
