@@ -1,5 +1,5 @@
 -- A table by hash gives the numbers of its list, and one name more is told with its place.
-use Rattle.std.proofs.Common.{◌≡◌, ℕ, suc, Bool, true, false, cond, List, [], ◌∷◌, ◌++◌, length, Option, Some, None, is_some, nat_eq, refl, sym, ap, ◌∙◌}
+use Rattle.std.proofs.Common.{◌≡◌, ℕ, suc, Bool, true, false, cond, List, [], ◌∷◌, ◌++◌, length, Option, Some, None, is_some, nat_eq, refl, sym, ap, ◌∙◌, map, slice_get}
 use Rattle.std.specs.Prelude.{Vec}
 use Rattle.std.specs.Map.{lookup}
 use Rattle.std.specs.Option.{option_map}
@@ -8,7 +8,7 @@ use Rattle.std.specs.Cmp.Lexicographic.{bytes_decides}
 use Rattle.std.specs.declared.alloc.Global.{Global}
 use lib.Pointwise.{pointwise}
 use Rattle.indexmap.specs.IndexMap.{insert_entry}
-use Rattle.name_table.specs.Numbers.{Numbered, number_list, number_in, with_number, place_of, TellsPlaces}
+use Rattle.name_table.specs.Numbers.{Numbered, number_list, number_in, with_number, place_of, first_named, TellsPlaces}
 
 abbrev pub Key : Type 0
 Key = Vec ℕ Global
@@ -94,3 +94,18 @@ tells_more es ts w tells v = by_test (is_some (number_in w es)) (λ h. ap (λ b.
         (λ s. there (place_of v ts) _ (ap is_some (sym (tells v)) ∙ ap (λ x. is_some (number_in x es)) (sym ((bytes_decides w v).0 s)) ∙ h))
         (λ s. nothing (place_of v ts) ∙ ap (λ b. or_else (place_of v ts) (cond b (Some (length ts)) None)) (sym s))
         ∙ sym (place_more v w ts)
+
+-- ---- the first item of a name
+
+abbrev pub at_place : {X : Type 0} → Option ℕ → List X → Option X
+at_place (Some i) xs = slice_get xs i
+at_place None xs = None
+
+pub first_at : {X : Type 0} (name : X → List ℕ) (w : List ℕ) (xs : List X) → at_place (place_of w (map name xs)) xs ≡ first_named name w xs
+first_at name w [] = refl
+first_at {X} name w (x ∷ xs) = by (bytes_eq (name x) w) (place_of w (map name xs)) (first_at name w xs)
+  where
+    by : (b : Bool) (o : Option ℕ) → at_place o xs ≡ first_named name w xs → at_place (cond b (Some 0) (option_map suc o)) (x ∷ xs) ≡ cond b (Some x) (first_named name w xs)
+    by true o h = refl
+    by false (Some i) h = h
+    by false None h = h

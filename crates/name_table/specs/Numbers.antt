@@ -29,3 +29,8 @@ place_of text (t ∷ texts) = if bytes_eq t text then Some 0 else option_map suc
 -- the number of each text is its first place in the list
 abbrev pub TellsPlaces : List Numbered → List (List ℕ) → Type 0
 TellsPlaces numbers texts = (text : List ℕ) → number_in text numbers ≡ place_of text texts
+
+-- the first item of this name
+abbrev pub first_named : {X : Type 0} → (X → List ℕ) → List ℕ → List X → Option X
+first_named name text [] = None
+first_named name text (x ∷ xs) = if bytes_eq (name x) text then Some x else first_named name text xs

@@ -6,8 +6,8 @@
 //! for names and on `indexmap` for tables by hash.
 #![tactic(auto)]
 
-mod names;
+mod named;
 mod table;
 
-pub use names::Names;
+pub use named::{Named, NamedItems, Names};
 pub use table::NameTable;
