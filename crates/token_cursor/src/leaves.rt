@@ -12,9 +12,9 @@ use crate::names::{alias_in, named, number_of, text_of};
 use crate::refusal::Refusal;
 use affine_ast::{Name, Text};
 use affine_expr::{Expr, Map, Set};
-use affine_grammar::{Alias, Body, State};
+use affine_grammar::{Alias, Aliases, Body, State};
 use affine_lex::Kind;
-use sqlite_items::Items;
+use name_table::Names;
 use std::alloc::Global;
 
 /// The most operands of an expression, and of a module.
@@ -41,14 +41,14 @@ pub fn numbered(at: usize) -> Result<u32, Refusal>
 }
 
 /// The number of a value's first appearance; a new one is added.
-fn appearing(alloc: Global, text: &[u8], names: &mut Items<Name>) -> Result<u32, Refusal>
+fn appearing(alloc: Global, text: &[u8], names: &mut Names) -> Result<u32, Refusal>
     ensures { MatchResult result (λ number. (number, names.new) ≡ tok.appears text.now names.old) (λ refusal. refusal ≡ Memory) }
 {
-    match number_of(text, names.as_slice()) {
+    match number_of(text, names) {
         Some(at) => numbered(at),
         None => {
             let number = numbered(names.len())?;
-            names.push(named(alloc, text)?)?;
+            names.push(alloc, named(alloc, text)?)?;
             Ok(number)
         }
     }
@@ -56,7 +56,7 @@ fn appearing(alloc: Global, text: &[u8], names: &mut Items<Name>) -> Result<u32,
 
 /// Whether a name is in one of two lists.
 #[tactic(auto, using(crate::proofs::Lookup::known_in_either))]
-fn is_known(text: &[u8], dims: &[Name], names: &[Name]) -> bool
+fn is_known(text: &[u8], dims: &Names, names: &Names) -> bool
     ensures { result ≡ tok.is_there (tok.number_of text.now (dims.now ++ names.now)) }
 {
     number_of(text, dims).is_some() || number_of(text, names).is_some()
@@ -178,7 +178,7 @@ impl<'a> Tokens<'a> {
     }
 
     /// A parameter that is none of these.
-    pub fn fresh(&mut self, alloc: Global, dims: &[Name], names: &[Name]) -> Result<Name, Refusal>
+    pub fn fresh(&mut self, alloc: Global, dims: &Names, names: &Names) -> Result<Name, Refusal>
         ensures { Takes result (take_by (tok.fresh (dims.now ++ names.now)) self.old) self.new }
     {
         match self.next {
@@ -215,7 +215,7 @@ impl<'a> Tokens<'a> {
     }
 
     /// The name of an alias that isn't defined yet.
-    pub fn new_alias(&mut self, alloc: Global, aliases: &[Alias]) -> Result<Text, Refusal>
+    pub fn new_alias(&mut self, alloc: Global, aliases: &Aliases) -> Result<Text, Refusal>
         ensures { Takes result (take_by (tok.new_alias aliases.now) self.old) self.new }
     {
         match self.next {
@@ -239,7 +239,7 @@ impl<'a> Tokens<'a> {
     pub fn alias_map(
         &mut self,
         alloc: Global,
-        aliases: &[Alias],
+        aliases: &Aliases,
         several: bool,
         total: u32,
     ) -> Result<(Map, u32), Refusal>
@@ -266,7 +266,7 @@ impl<'a> Tokens<'a> {
     pub fn alias_set(
         &mut self,
         alloc: Global,
-        aliases: &[Alias],
+        aliases: &Aliases,
         total: u32,
     ) -> Result<(Set, u32), Refusal>
         ensures { Takes result (take_by (tok.alias_set aliases.now total) self.old) self.new }
@@ -293,10 +293,10 @@ impl<'a> Tokens<'a> {
 fn parameter_of(text: &[u8], state: &State) -> Result<Expr, Refusal>
     ensures { Finds result (tok.parameter_of state.now text.now) (tok.counting state.now) }
 {
-    if let Some(at) = number_of(text, state.dims.as_slice()) {
+    if let Some(at) = number_of(text, &state.dims) {
         return Ok(Expr::Dim(numbered(at)?));
     }
-    match number_of(text, state.syms.as_slice()) {
+    match number_of(text, &state.syms) {
         Some(at) => Ok(Expr::Sym(numbered(at)?)),
         None => Err(Refusal::Here),
     }
