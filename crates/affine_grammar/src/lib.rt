@@ -6,11 +6,11 @@
 //! text spells, a text spells at most one, and all else is refused at the first token that can't stand
 //! where it stands.
 //!
-//! The crate stands on `readers`, `affine_lex` and `affine_ast`.
+//! The crate stands on `readers`, `affine_lex`, `affine_ast` and `name_table`.
 #![tactic(auto)]
 
 mod text;
 mod words;
 
 pub use text::texts_are_read_exactly;
-pub use words::{Action, Alias, Body, Definition, Leaves, Operator, Scope, State, Turns};
+pub use words::{Action, Alias, Aliases, Body, Definition, Leaves, Operator, Scope, State, Turns};

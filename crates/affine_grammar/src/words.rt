@@ -1,9 +1,9 @@
 //! What the words and signs of a text mean.
 
-use affine_ast::{Bound, Name, Pick, Text};
+use affine_ast::{Bound, Pick, Text};
 use affine_expr::{Map, Set};
 use int_ops::{CastKind, Op};
-use sqlite_items::Items;
+use name_table::{Named, NamedItems, Names};
 
 /// The leaves of an expression: the parameters of a map or set, or the values in subscripts.
 #[derive(Clone, Copy)]
@@ -76,21 +76,32 @@ pub struct Alias {
     pub operands: u32,
 }
 
+impl Named for Alias {
+    ghost name = { λ a. a.name };
+
+    fn name(&self) -> &[u8] {
+        self.name.as_str().as_bytes()
+    }
+}
+
+/// The aliases of a text in order, each found by its name.
+pub type Aliases = NamedItems<Alias>;
+
 /// What an expression is read with: its operands so far, those of the module so far, and the names of the
 /// dimensions and of the symbols. In subscripts these are the values that have stood so far.
 #[derive(Drop)]
 pub struct State {
     pub operands: u32,
     pub total: u32,
-    pub dims: Items<Name>,
-    pub syms: Items<Name>,
+    pub dims: Names,
+    pub syms: Names,
 }
 
 /// The parameters of a map or set.
 #[derive(Drop)]
 pub struct Scope {
-    pub dims: Items<Name>,
-    pub syms: Items<Name>,
+    pub dims: Names,
+    pub syms: Names,
 }
 
 /// The bounds and the step of a loop, and the operands of the module up to their end.

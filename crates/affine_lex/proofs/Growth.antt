@@ -1,34 +1,10 @@
--- How the list of tokens grows.
-use Rattle.affine_lex.proofs.Tests.{eq_no}
-use Rattle.std.proofs.Common.{◌≡◌, ℕ, zero, suc, ◌+◌, ◌-◌, ◌<◌, ◌≤◌, Bool, List, [], ◌∷◌, ◌++◌, length, take, drop, refl, sym, ap, ◌∙◌, subst, append_assoc, arith}
+-- The token and the place that are reached, over the bytes from a place on.
+use Rattle.std.proofs.Common.{◌≡◌, ℕ, zero, suc, ◌+◌, ◌-◌, ◌≤◌, Bool, List, [], ◌∷◌, ◌++◌, length, take, drop, refl, sym, ap, ◌∙◌, arith}
 use Rattle.std.specs.List.{fold}
 use Rattle.std.proofs.lemmas.List.Sums.{fold-append}
-use Rattle.affine_lex.specs.Scan.{IsAt, IsScanned, past_gap, gap, token, in_sizes, after, place, place_from, stepped, chosen, Lexeme}
-use Rattle.affine_lex.specs.Tokens.{text_of}
-use Rattle.affine_lex.specs.declared.token.Kind.{Kind}
-use Rattle.affine_lex.specs.declared.token.Kind.TheVariants.{End}
-use Rattle.affine_lex.specs.declared.token.Token.{Token}
+use Rattle.affine_lex.specs.Scan.{gap, token, in_sizes, place, place_from, stepped, Lexeme}
 use Rattle.affine_lex.specs.declared.lexer.Context.{Context}
-use Rattle.affine_lex.specs.declared.lexer.Context.TheVariants.{Plain}
 use Rattle.affine_lex.specs.declared.lexer.Place.{Place}
-
-pub first : (s : List ℕ) (n : ℕ) → n ≡ gap s → (ts : List Token) → IsAt s n Plain ts → IsScanned s ([] ++ ts)
-first s n h ts i = subst (λ k. IsAt s k Plain ts) (h ∙ sym (zero_plus (gap s))) i
-  where
-    zero_plus : (k : ℕ) → 0 + k ≡ k
-    zero_plus k = omega arith
-
-less : (a b : ℕ) → a + b - a ≡ b
-less a b = omega arith
-
-pub one_more : (s : List ℕ) (from len skip : ℕ) (c d : Context) (k : Kind) (p : Place) (out ts : List Token) → from < length s → p ≡ place (take from s) → (k, len) ≡ token (in_sizes c) (drop from s) → d ≡ after c k (take (from + len - from) (drop from s)) → skip ≡ gap (drop (from + len) s) → ((us : List Token) → IsAt s from c us → IsScanned s (out ++ us)) → IsAt s (from + len + skip) d ts → IsScanned s ((out ++ record { kind = k; from = from; to = from + len; line = p.line; column = p.column } ∷ []) ++ ts)
-one_more s from len skip c d k p out ts h q t a g inv i =
-    let u : Token = record { kind = k; from = from; to = from + len; line = p.line; column = p.column } in
-    let more : IsAt s (past_gap s (from + len)) (after c k (take (from + len - from) (drop from s))) ts = subst (λ e. IsAt s (past_gap s (from + len)) e ts) a (subst (λ n. IsAt s (from + len + n) d ts) g i) in
-    let body : (k ≡ (token (in_sizes c) (drop from s)).0) × (from + len ≡ from + (token (in_sizes c) (drop from s)).1) × IsAt s (past_gap s (from + len)) (after c k (text_of s u)) ts = (ap (λ (x : Lexeme). x.0) t, ap (λ (x : Lexeme). from + x.1) t, more) in
-    let A : Type 0 = (k ≡ End) × (from + len ≡ from) × (ts ≡ []) in
-    let B : Type 0 = (k ≡ (token (in_sizes c) (drop from s)).0) × (from + len ≡ from + (token (in_sizes c) (drop from s)).1) × IsAt s (past_gap s (from + len)) (after c k (text_of s u)) ts in
-    subst (λ l. IsScanned s l) (sym (append_assoc out (u ∷ []) ts)) (inv (u ∷ ts) (refl, q, subst (λ b. chosen b A B) (sym (eq_no from (length s) h)) body))
 
 nil : (n : ℕ) → take {A = ℕ} n [] ≡ []
 nil zero = refl

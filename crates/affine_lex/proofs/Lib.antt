@@ -5,6 +5,7 @@ pub mod Growth
 pub mod Listed
 pub mod Places
 pub mod Runs
+pub mod Scanning
 pub mod Shapes
 pub mod Tests
 pub mod Written

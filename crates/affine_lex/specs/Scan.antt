@@ -1,6 +1,6 @@
 -- The tokens of a text as values that compute, for the clauses of the functions that make them. What
 -- they mean is said in Tokens: the computed list is the one of `AreTokens` (proofs/Listed).
-use Rattle.std.specs.Prelude.{◌≡◌, ℕ, suc, ◌+◌, ◌-◌, ◌*◌, ◌^◌, min, Bool, true, false, not, ◌&&◌, if◌then◌else◌, ◌==◌, nat_le, List, [], ◌∷◌, length, take, drop, slice_index, codes}
+use Rattle.std.specs.Prelude.{◌≡◌, ◌≤◌, ◌<◌, ℕ, zero, suc, ◌+◌, ◌-◌, ◌*◌, ◌^◌, min, Bool, true, false, not, ◌&&◌, if◌then◌else◌, ◌==◌, nat_le, nat_lt, Option, Some, None, List, [], ◌∷◌, length, take, drop, slice_index, codes}
 use Rattle.affine_lex.specs.Classes.{is_in, is_sign}
 use Rattle.affine_lex.specs.Tokens.{text_of}
 use Rattle.std.specs.List.{prefix_len, fold}
@@ -132,3 +132,38 @@ IsAt source from c (t ∷ ts) =
 -- the tokens of a text, from its first byte on
 abbrev pub IsScanned : List ℕ → List Token → Type 0
 IsScanned source ts = IsAt source (past_gap source 0) context.Plain ts
+
+-- ---- the tokens that are left
+
+-- the token that begins at a place before the end, behind others that end with this
+abbrev pub token_at : List ℕ → ℕ → Context → Token
+token_at source from c =
+    let x = token (in_sizes c) (drop from source) in
+    let p = place (take from source) in
+    record { kind = x.0; from = from; to = from + x.1; line = p.line; column = p.column }
+
+-- the tokens from a place on, as `tokens_from` has them, where at most so many bytes are left
+abbrev pub tokens_within : ℕ → List ℕ → ℕ → Context → List Token
+tokens_within zero source from c = []
+tokens_within (suc n) source from c =
+    let t = token_at source from c in
+    if nat_lt from (length source) then t ∷ tokens_within n source (past_gap source t.to) (after c t.kind (text_of source t)) else []
+
+-- the tokens before the end, from a place on at which one begins or the text ends, behind others that
+-- end with this
+unfoldable pub tokens_from : List ℕ → ℕ → Context → List Token
+tokens_from source from c = tokens_within (length source - from) source from c
+
+-- what is left behind a token that was taken, and nothing where there was none
+abbrev pub with_next : Option Token → List Token → List Token
+with_next (Some t) ts = t ∷ ts
+with_next None ts = []
+
+-- a place from which tokens are cut: it lies in the text, and its line and column are known
+pub record IsCutAt (source : List ℕ) (from : ℕ) (p : Place) : Type 0 where
+  pub size : length source < 2 ^ 32 - 1
+  pub within : from ≤ length source
+  pub place : p ≡ place (take from source)
+  pub line : p.line ≤ from + 1
+  pub column : p.column ≤ from + 1
+  pub some : 0 < p.column

@@ -160,3 +160,7 @@ GoOn source earlier (t ∷ ts) = IsPlaced source earlier t × ((IsEnd source t �
 -- the tokens of a text, from its first byte to its end
 pub record AreTokens (source : List ℕ) (ts : List Token) : Type 0 where
   pub whole : GoOn source [] ts
+
+-- the end of a text, as the token that it is there
+abbrev pub text_end : List ℕ → Token
+text_end source = record { kind = End; from = length source; to = length source; line = line_behind source; column = column_behind source }

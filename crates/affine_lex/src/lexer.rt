@@ -1,18 +1,15 @@
-//! The whole text, from its first token to its end.
+//! What lies between two tokens, and what a token leaves behind for the next one.
 
-ghost use Rattle.std.specs.Prelude.{◌≡◌, ◌<◌, ◌≤◌, ◌+◌, ◌^◌, List, length, IfOk};
+ghost use Rattle.std.specs.Prelude.{◌≡◌, ◌<◌, ◌≤◌, ◌+◌, ◌^◌, length};
 ghost use Rattle.affine_lex.specs.Scan as spec;
-ghost use Rattle.affine_lex.specs.Tokens.{AreTokens};
-ghost use Rattle.affine_lex.specs.declared.token.Token.{Token};
 
 use crate::class::{Class, is_in};
-use crate::lexeme::{byte_at, token};
-use crate::token::{Kind, Token};
-use std::alloc::{AllocError, Global};
+use crate::lexeme::byte_at;
+use crate::token::Kind;
 
 /// What the tokens so far end with, as far as it tells whether sizes may stand next.
 #[derive(Clone, Copy)]
-enum Context {
+pub(crate) enum Context {
     /// With neither of the two below.
     Plain,
     /// With the word `memref`.
@@ -23,14 +20,14 @@ enum Context {
 
 /// A line and a column, both counted from 1.
 #[derive(Clone, Copy)]
-struct Place {
-    line: u32,
-    column: u32,
+pub(crate) struct Place {
+    pub(crate) line: u32,
+    pub(crate) column: u32,
 }
 
 /// How many bytes of white space and comments come first.
 #[tactic(auto, unfolding(crate::specs::Scan::gap))]
-fn gap(bytes: &[u8]) -> usize
+pub(crate) fn gap(bytes: &[u8]) -> usize
     ensures value { result ≡ spec.gap bytes.now }
     ensures within { result ≤ length bytes.now }
 {
@@ -70,7 +67,7 @@ fn step(place: Place, byte: u8) -> Place
 
 /// The place behind these bytes more.
 #[tactic(auto, unfolding(crate::specs::Scan::place_from))]
-fn walk(place: Place, bytes: &[u8]) -> Place
+pub(crate) fn walk(place: Place, bytes: &[u8]) -> Place
     requires line { place.line + length bytes.now < 2 ^ 32 }
     requires column { place.column + length bytes.now < 2 ^ 32 }
     requires some { 0 < place.column }
@@ -86,7 +83,7 @@ fn walk(place: Place, bytes: &[u8]) -> Place
     here
 }
 
-fn in_sizes(context: Context) -> bool
+pub(crate) fn in_sizes(context: Context) -> bool
     ensures { result ≡ spec.in_sizes context }
 {
     match context {
@@ -96,7 +93,7 @@ fn in_sizes(context: Context) -> bool
 }
 
 /// What the tokens end with, once a token of this kind and text has come behind the others.
-fn after(context: Context, kind: Kind, text: &[u8]) -> Context
+pub(crate) fn after(context: Context, kind: Kind, text: &[u8]) -> Context
     ensures { result ≡ spec.after context kind text.now }
 {
     match kind {
@@ -129,44 +126,4 @@ fn after(context: Context, kind: Kind, text: &[u8]) -> Context
         | Kind::Bad
         | Kind::End => Context::Plain,
     }
-}
-
-/// Cuts a text into its tokens, the last of which is the end of the text. There is one such list.
-///
-/// A text of any bytes has tokens: those that stand nowhere in the grammar are `Kind::Bad`. The
-/// only error is that memory ran out.
-#[tactic(auto, using(crate::proofs::Listed::listed))]
-pub fn tokens(alloc: Global, source: &[u8]) -> Result<Vec<Token>, AllocError>
-    requires { length source.now < 4294967295 }
-    ensures tokens { IfOk result (λ v. AreTokens source.now v.items) }
-    // no other list is that of the tokens of this text
-    ensures only { (ts : List Token) → AreTokens source.now ts → IfOk result (λ v. v.items ≡ ts) }
-{
-    let mut found = Vec::new(alloc);
-    let mut context = Context::Plain;
-    let mut from = gap(source);
-    let mut place = walk(Place { line: 1, column: 1 }, &source[..from]);
-    while from < source.len() {
-        let (kind, count) = token(in_sizes(context), &source[from..]);
-        let to = from + count;
-        found.push(Token {
-            kind,
-            from,
-            to,
-            line: place.line,
-            column: place.column,
-        })?;
-        context = after(context, kind, &source[from..to]);
-        let next = to + gap(&source[to..]);
-        place = walk(place, &source[from..next]);
-        from = next;
-    }
-    found.push(Token {
-        kind: Kind::End,
-        from,
-        to: from,
-        line: place.line,
-        column: place.column,
-    })?;
-    Ok(found)
 }

@@ -6,10 +6,10 @@ use Rattle.affine_lex.specs.Tokens.{AreTokens}
 use Rattle.affine_ast.specs.declared.module.Module.{Module}
 use Rattle.affine_grammar.specs.Token.{Tok}
 use Rattle.affine_grammar.specs.ReadingFile.{file}
-use Rattle.affine_grammar.specs.Spelling.{Spells, IsRefused, Stands, tokens_of}
+use Rattle.affine_grammar.specs.Spelling.{Spells, tokens_of}
 use Rattle.affine_grammar.proofs.Whole.{read_spells, stop_refused, left_refused, spells_one, spells_not_refused}
 use Rattle.token_cursor.specs.Input.{Takes}
-use Rattle.affine_text.specs.Parsed.{Parses, Allows}
+use Rattle.affine_text.specs.Parsed.{Parses, Allows, RefusesAt}
 use Rattle.affine_text.specs.declared.fault.ParseFault.{ParseFault}
 use Rattle.affine_text.specs.declared.fault.ParseFault.TheVariants as fault
 use Rattle.token_cursor.specs.declared.refusal.Refusal.{Refusal}
@@ -21,15 +21,17 @@ module _ (source : List ℕ) (ts : List Token) (end : Token) (lexed : AreTokens 
   read_whole m left h e = read_spells source ts end lexed m (ap file (sym is) ∙ h ∙ ap (λ (x : List Tok). Got m x) e)
 
   -- a module is read, and something stands behind it
-  pub read_part : (m : Module) (left : List Tok) (line column : ℕ) → file start ≡ Got m left → (left ≡ [] → ⊥) → Stands left end line column → IsRefused source line column
-  read_part m [] line column h l s = absurd (l refl)
-  read_part m (t ∷ rest) line column h l s = left_refused source ts end lexed m t rest line column (ap file (sym is) ∙ h) s
+  pub read_part : (m : Module) (left : List Tok) (f : ParseFault) → file start ≡ Got m left → (left ≡ [] → ⊥) → RefusesAt f left end → Parses (Err f) source
+  read_part m [] f h l s = absurd (l refl)
+  read_part m (t ∷ rest) (fault.Text line column) h l s = left_refused source ts end lexed m t rest line column (ap file (sym is) ∙ h) s
+  read_part m (t ∷ rest) fault.Memory h l s = absurd s
 
   -- nothing is read
-  pub read_none : (r : Result Module Refusal) (left : List Tok) (line column : ℕ) → Takes r (file start) left → r ≡ Err refusal.Here → Stands left end line column → IsRefused source line column
-  read_none r left line column t h s =
+  pub read_none : (r : Result Module Refusal) (left : List Tok) (f : ParseFault) → Takes r (file start) left → r ≡ Err refusal.Here → RefusesAt f left end → Parses (Err f) source
+  read_none r left (fault.Text line column) t h s =
       let g : file start ≡ Stop left = subst (λ x. Takes x (file start) left) h t in
       stop_refused source ts end lexed left line column (ap file (sym is) ∙ g) s
+  read_none r left fault.Memory t h s = absurd s
 
 -- an answer that says what holds of the bytes allows no other
 pub one_answer : (r : Result Module ParseFault) (source : List ℕ) (m : Module) → Parses r source → Spells source m → Allows r m

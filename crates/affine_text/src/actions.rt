@@ -8,7 +8,7 @@ ghost use Rattle.token_cursor.specs.Input.{Takes};
 
 use crate::definitions::typed;
 use affine_ast::{Access, Name, What};
-use affine_grammar::Alias;
+use affine_grammar::Aliases;
 use expression_text::{brackets, memref, subscripts};
 use std::alloc::Global;
 use token_cursor::{Refusal, Tokens};
@@ -17,7 +17,7 @@ use token_cursor::{Refusal, Tokens};
 pub(crate) fn store(
     alloc: Global,
     tokens: &mut Tokens<'_>,
-    aliases: &[Alias],
+    aliases: &Aliases,
     left: u32,
     total: u32,
 ) -> Result<(What, u32), Refusal>
@@ -43,7 +43,7 @@ pub(crate) fn store(
 pub(crate) fn raw_store(
     alloc: Global,
     tokens: &mut Tokens<'_>,
-    aliases: &[Alias],
+    aliases: &Aliases,
     left: u32,
     total: u32,
 ) -> Result<(What, u32), Refusal>
@@ -69,7 +69,7 @@ pub(crate) fn raw_store(
 pub(crate) fn dealloc(
     alloc: Global,
     tokens: &mut Tokens<'_>,
-    aliases: &[Alias],
+    aliases: &Aliases,
     left: u32,
     total: u32,
 ) -> Result<(What, u32), Refusal>
@@ -113,7 +113,7 @@ fn stride(alloc: Global, tokens: &mut Tokens<'_>) -> Result<Option<(Name, Name)>
 pub(crate) fn start(
     alloc: Global,
     tokens: &mut Tokens<'_>,
-    aliases: &[Alias],
+    aliases: &Aliases,
     left: u32,
     total: u32,
 ) -> Result<(What, u32), Refusal>
@@ -153,7 +153,7 @@ pub(crate) fn start(
 pub(crate) fn wait(
     alloc: Global,
     tokens: &mut Tokens<'_>,
-    aliases: &[Alias],
+    aliases: &Aliases,
     left: u32,
     total: u32,
 ) -> Result<(What, u32), Refusal>

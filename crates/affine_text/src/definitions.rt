@@ -7,7 +7,7 @@ ghost use Rattle.affine_grammar.specs.declared.words.Definition.TheVariants as d
 ghost use Rattle.token_cursor.specs.Input.{Takes};
 
 use affine_ast::{Bound, MemrefType, Name, Pick, What};
-use affine_grammar::{Alias, Definition, Turns};
+use affine_grammar::{Aliases, Definition, Turns};
 use expression_text::{brackets, memref, signed, subscripts, use_of};
 use int_ops::{CastKind, Op};
 use std::alloc::Global;
@@ -19,7 +19,7 @@ fn bound_of(
     alloc: Global,
     tokens: &mut Tokens<'_>,
     word: &[u8],
-    aliases: &[Alias],
+    aliases: &Aliases,
     total: u32,
 ) -> Result<(Bound, u32), Refusal>
     ensures { Takes result (spec.bound_of word.now aliases.now total tokens.old) tokens.new }
@@ -54,7 +54,7 @@ fn step(tokens: &mut Tokens<'_>) -> Result<i64, Refusal>
 pub(crate) fn turns_of(
     alloc: Global,
     tokens: &mut Tokens<'_>,
-    aliases: &[Alias],
+    aliases: &Aliases,
     total: u32,
 ) -> Result<Turns, Refusal>
     ensures { Takes result (spec.turns_of aliases.now total tokens.old) tokens.new }
@@ -83,7 +83,7 @@ pub(crate) fn typed(alloc: Global, tokens: &mut Tokens<'_>) -> Result<MemrefType
 fn chosen(
     alloc: Global,
     tokens: &mut Tokens<'_>,
-    aliases: &[Alias],
+    aliases: &Aliases,
     total: u32,
     name: Name,
     pick: Pick,
@@ -105,7 +105,7 @@ fn chosen(
 fn load(
     alloc: Global,
     tokens: &mut Tokens<'_>,
-    aliases: &[Alias],
+    aliases: &Aliases,
     total: u32,
     name: Name,
 ) -> Result<(What, u32), Refusal>
@@ -129,7 +129,7 @@ fn load(
 fn raw_load(
     alloc: Global,
     tokens: &mut Tokens<'_>,
-    aliases: &[Alias],
+    aliases: &Aliases,
     total: u32,
     name: Name,
 ) -> Result<(What, u32), Refusal>
@@ -152,7 +152,7 @@ fn raw_load(
 #[tactic(auto, unfolding(affine_grammar::specs::ReadingFile::defined))]
 fn constant(
     tokens: &mut Tokens<'_>,
-    aliases: &[Alias],
+    aliases: &Aliases,
     total: u32,
     name: Name,
 ) -> Result<(What, u32), Refusal>
@@ -175,7 +175,7 @@ fn constant(
 fn binary(
     alloc: Global,
     tokens: &mut Tokens<'_>,
-    aliases: &[Alias],
+    aliases: &Aliases,
     total: u32,
     name: Name,
     op: Op,
@@ -203,7 +203,7 @@ fn binary(
 fn cast(
     alloc: Global,
     tokens: &mut Tokens<'_>,
-    aliases: &[Alias],
+    aliases: &Aliases,
     total: u32,
     name: Name,
     kind: CastKind,
@@ -231,7 +231,7 @@ fn cast(
 fn alloc_of(
     alloc: Global,
     tokens: &mut Tokens<'_>,
-    aliases: &[Alias],
+    aliases: &Aliases,
     total: u32,
     name: Name,
 ) -> Result<(What, u32), Refusal>
@@ -247,7 +247,7 @@ fn alloc_of(
 pub(crate) fn defined(
     alloc: Global,
     tokens: &mut Tokens<'_>,
-    aliases: &[Alias],
+    aliases: &Aliases,
     total: u32,
     name: Name,
     word: Definition,

@@ -8,11 +8,11 @@ ghost use Rattle.token_cursor.specs.Input.{Takes};
 use crate::regions::statements;
 use affine_ast::{Arg, ArgKind, Module, Stmt, What};
 use affine_expr::Interval;
-use affine_grammar::{Alias, Body};
+use affine_grammar::{Alias, Aliases, Body};
 use expression_text::{map0, memref, set0, signed};
 use sqlite_items::Items;
 use std::alloc::Global;
-use token_cursor::{Refusal, Tokens};
+use token_cursor::{Refusal, Tokens, fitted};
 
 /// How many regions may stand inside the function's, one inside the other.
 const LEVELS: u32 = 39;
@@ -110,7 +110,7 @@ fn arguments(alloc: Global, tokens: &mut Tokens<'_>) -> Result<Items<Arg>, Refus
     }
     let args = some_arguments(alloc, tokens)?;
     tokens.sign(b')')?;
-    Ok(args)
+    Ok(fitted(alloc, args)?)
 }
 
 /// The statements of the function, the last of which is its `return`.
@@ -118,7 +118,7 @@ fn arguments(alloc: Global, tokens: &mut Tokens<'_>) -> Result<Items<Arg>, Refus
 fn function_body(
     alloc: Global,
     tokens: &mut Tokens<'_>,
-    aliases: &[Alias],
+    aliases: &Aliases,
 ) -> Result<Items<Stmt>, Refusal>
     ensures { Takes result (spec.function_body aliases.now tokens.old) tokens.new }
 {
@@ -134,7 +134,7 @@ fn function_body(
 }
 
 #[tactic(auto, unfolding(affine_grammar::specs::ReadingFile::function))]
-fn function(alloc: Global, tokens: &mut Tokens<'_>, aliases: &[Alias]) -> Result<Module, Refusal>
+fn function(alloc: Global, tokens: &mut Tokens<'_>, aliases: &Aliases) -> Result<Module, Refusal>
     ensures { Takes result (spec.function aliases.now tokens.old) tokens.new }
 {
     tokens.word(b"func.func")?;
@@ -161,27 +161,30 @@ fn alias_body(alloc: Global, tokens: &mut Tokens<'_>) -> Result<(Body, u32), Ref
 fn alias_definition(
     alloc: Global,
     tokens: &mut Tokens<'_>,
-    before: Items<Alias>,
-) -> Result<Items<Alias>, Refusal>
+    before: Aliases,
+) -> Result<Aliases, Refusal>
     ensures { Takes result (spec.alias_definition before tokens.old) tokens.new }
 {
     let mut aliases = before;
-    let name = tokens.new_alias(alloc, aliases.as_slice())?;
+    let name = tokens.new_alias(alloc, &aliases)?;
     tokens.sign(b'=')?;
     let (body, operands) = alias_body(alloc, tokens)?;
-    aliases.push(Alias {
-        name,
-        body,
-        operands,
-    })?;
+    aliases.push(
+        alloc,
+        Alias {
+            name,
+            body,
+            operands,
+        },
+    )?;
     Ok(aliases)
 }
 
 #[tactic(auto, using(affine_grammar::proofs::Steps::alias_more, affine_grammar::proofs::Steps::alias_done, affine_grammar::proofs::Steps::alias_shorter))]
-fn aliases(alloc: Global, tokens: &mut Tokens<'_>) -> Result<Items<Alias>, Refusal>
+fn aliases(alloc: Global, tokens: &mut Tokens<'_>) -> Result<Aliases, Refusal>
     ensures { Takes result (many tok.at_alias spec.alias_definition [] tokens.old) tokens.new }
 {
-    let mut aliases = Items::new(alloc);
+    let mut aliases = Aliases::new(alloc);
     'aliases: while tokens.at_alias() {
         aliases = alias_definition(alloc, tokens, aliases)?;
     }
@@ -189,7 +192,7 @@ fn aliases(alloc: Global, tokens: &mut Tokens<'_>) -> Result<Items<Alias>, Refus
 }
 
 #[tactic(auto, unfolding(affine_grammar::specs::ReadingFile::module_of))]
-fn module_of(alloc: Global, tokens: &mut Tokens<'_>, aliases: &[Alias]) -> Result<Module, Refusal>
+fn module_of(alloc: Global, tokens: &mut Tokens<'_>, aliases: &Aliases) -> Result<Module, Refusal>
     ensures { Takes result (spec.module_of aliases.now tokens.old) tokens.new }
 {
     if !tokens.next_is_word(b"module") {
@@ -208,5 +211,5 @@ pub(crate) fn file(alloc: Global, tokens: &mut Tokens<'_>) -> Result<Module, Ref
     ensures { Takes result (spec.file tokens.old) tokens.new }
 {
     let aliases = aliases(alloc, tokens)?;
-    module_of(alloc, tokens, aliases.as_slice())
+    module_of(alloc, tokens, &aliases)
 }

@@ -10,11 +10,11 @@ ghost use Rattle.token_cursor.specs.declared.refusal.Refusal.TheVariants.{Memory
 use crate::actions::{dealloc, raw_store, start, store, wait};
 use crate::definitions::{defined, turns_of};
 use affine_ast::{Stmt, What};
-use affine_grammar::{Action, Alias};
+use affine_grammar::{Action, Aliases};
 use expression_text::{operands, some_set};
 use sqlite_items::Items;
 use std::alloc::Global;
-use token_cursor::{Refusal, Tokens};
+use token_cursor::{Refusal, Tokens, fitted};
 
 /// The statements between braces, and the operands of the module up to their end. One region too many is refused at its
 /// brace.
@@ -23,7 +23,7 @@ use token_cursor::{Refusal, Tokens};
 fn region(
     alloc: Global,
     tokens: &mut Tokens<'_>,
-    aliases: &[Alias],
+    aliases: &Aliases,
     left: u32,
     total: u32,
 ) -> Result<(Items<Stmt>, u32), Refusal>
@@ -35,9 +35,9 @@ fn region(
         return Ok((Items::new(alloc), total));
     }
     tokens.sign(b'{')?;
-    let read = statements(alloc, tokens, aliases, left - 1, total)?;
+    let (statements, total) = statements(alloc, tokens, aliases, left - 1, total)?;
     tokens.sign(b'}')?;
-    Ok(read)
+    Ok((fitted(alloc, statements)?, total))
 }
 
 /// The statements of a region, within which `left` more may stand inside one another.
@@ -46,7 +46,7 @@ fn region(
 pub(crate) fn statements(
     alloc: Global,
     tokens: &mut Tokens<'_>,
-    aliases: &[Alias],
+    aliases: &Aliases,
     left: u32,
     total: u32,
 ) -> Result<(Items<Stmt>, u32), Refusal>
@@ -72,7 +72,7 @@ fn behind(before: Items<Stmt>, line: u32, what: What) -> Result<Items<Stmt>, Ref
 fn statement(
     alloc: Global,
     tokens: &mut Tokens<'_>,
-    aliases: &[Alias],
+    aliases: &Aliases,
     left: u32,
     before: (Items<Stmt>, u32),
 ) -> Result<(Items<Stmt>, u32), Refusal>
@@ -96,7 +96,7 @@ fn statement(
 fn acted(
     alloc: Global,
     tokens: &mut Tokens<'_>,
-    aliases: &[Alias],
+    aliases: &Aliases,
     left: u32,
     total: u32,
     word: Action,
@@ -119,7 +119,7 @@ fn acted(
 fn looped(
     alloc: Global,
     tokens: &mut Tokens<'_>,
-    aliases: &[Alias],
+    aliases: &Aliases,
     left: u32,
     total: u32,
 ) -> Result<(What, u32), Refusal>
@@ -145,7 +145,7 @@ fn looped(
 fn else_part(
     alloc: Global,
     tokens: &mut Tokens<'_>,
-    aliases: &[Alias],
+    aliases: &Aliases,
     left: u32,
     total: u32,
 ) -> Result<(Option<Items<Stmt>>, u32), Refusal>
@@ -164,7 +164,7 @@ fn else_part(
 fn chosen(
     alloc: Global,
     tokens: &mut Tokens<'_>,
-    aliases: &[Alias],
+    aliases: &Aliases,
     left: u32,
     total: u32,
 ) -> Result<(What, u32), Refusal>

@@ -1,41 +1,42 @@
 // A whole text.
-ghost use Rattle.std.specs.Prelude.{◌<◌, ◌++◌, ◌∷◌, [], length};
+ghost use Rattle.std.specs.Prelude.{◌<◌, length};
 ghost use Rattle.affine_ast.specs.declared.module.Module.{Module as ModuleShape};
 ghost use Rattle.affine_grammar.specs.Spelling.{Spells};
-ghost use Rattle.affine_lex.specs.Tokens.{AreTokens};
-ghost use Rattle.affine_text.specs.Parsed.{Parses, Allows};
+ghost use Rattle.affine_lex.specs.Tokens.{text_end as end_token};
+ghost use Rattle.affine_text.specs.Parsed.{Parses, Allows, RefusesAt};
 
 use crate::fault::ParseFault;
 use crate::function::file;
 use affine_ast::Module;
-use affine_lex::{Token, tokens};
+use affine_lex::{Scanner, text_end};
 use std::alloc::Global;
 use token_cursor::{Refusal, Tokens};
 
-/// The module of the tokens of a text, which are given without their end.
-fn module_of(
-    alloc: Global,
-    source: &[u8],
-    texts: &[Token],
-    end: Token,
-) -> Result<Module, ParseFault>
-    requires { AreTokens source.now (texts.now ++ end ∷ []) }
+/// The fault at the next token, or at the end of the text where none is left.
+fn refused(source: &[u8], tokens: &Tokens<'_>) -> ParseFault
+    requires { length source.now < 4294967295 }
+    ensures { RefusesAt result tokens.now (end_token source.now) }
+{
+    let (line, column) = tokens.place(text_end(source));
+    ParseFault::Text { line, column }
+}
+
+/// The module of a text.
+fn module_of(alloc: Global, source: &[u8]) -> Result<Module, ParseFault>
+    requires { length source.now < 4294967295 }
     ensures { Parses result source.now }
 {
-    let mut tokens = Tokens::new(source, texts);
-    let read = file(alloc, &mut tokens);
-    let (line, column) = tokens.place(end);
-    let refused = ParseFault::Text { line, column };
-    match read {
+    let mut tokens = Tokens::new(source, Scanner::new(source));
+    match file(alloc, &mut tokens) {
         Ok(module) => {
             if tokens.is_done() {
                 Ok(module)
             } else {
-                Err(refused)
+                Err(refused(source, &tokens))
             }
         }
         Err(refusal) => match refusal {
-            Refusal::Here => Err(refused),
+            Refusal::Here => Err(refused(source, &tokens)),
             Refusal::Memory => Err(ParseFault::Memory),
         },
     }
@@ -51,10 +52,5 @@ pub fn parse(alloc: Global, source: &[u8]) -> Result<Module, ParseFault>
     // no other module and no refusal where the bytes spell this one
     ensures only { (meant : ModuleShape) → Spells source.now meant → Allows result meant }
 {
-    let list = tokens(alloc, source)?;
-    match list.as_slice() {
-        [texts @ .., end] => module_of(alloc, source, texts, *end),
-        // each list of tokens has its end
-        [] => Err(ParseFault::Memory),
-    }
+    module_of(alloc, source)
 }

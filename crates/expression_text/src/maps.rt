@@ -11,10 +11,11 @@ ghost use Rattle.token_cursor.specs.declared.refusal.Refusal.TheVariants.{Memory
 use crate::expressions::{expression, result_of};
 use affine_ast::{Access, Name};
 use affine_expr::{Constraint, Expr, Map, Set};
-use affine_grammar::{Alias, Leaves, Scope, State};
+use affine_grammar::{Aliases, Leaves, Scope, State};
+use name_table::Names;
 use sqlite_items::Items;
 use std::alloc::Global;
-use token_cursor::{Refusal, Tokens, numbered};
+use token_cursor::{Refusal, Tokens, fitted, numbered};
 
 /// The most results of a map, and rows of a set.
 const RESULTS: usize = 8;
@@ -24,23 +25,23 @@ const ROWS: usize = 16;
 fn parameter_name(
     alloc: Global,
     tokens: &mut Tokens<'_>,
-    dims: &[Name],
-    before: Items<Name>,
-) -> Result<Items<Name>, Refusal>
+    dims: &Names,
+    before: Names,
+) -> Result<Names, Refusal>
     ensures { Takes result (spec.parameter_name dims.now before tokens.old) tokens.new }
 {
     let mut names = before;
-    let name = tokens.fresh(alloc, dims, names.as_slice())?;
-    names.push(name)?;
+    let name = tokens.fresh(alloc, dims, &names)?;
+    names.push(alloc, name)?;
     Ok(names)
 }
 
 fn next_parameter(
     alloc: Global,
     tokens: &mut Tokens<'_>,
-    dims: &[Name],
-    before: Items<Name>,
-) -> Result<Items<Name>, Refusal>
+    dims: &Names,
+    before: Names,
+) -> Result<Names, Refusal>
     ensures { Takes result (spec.next_parameter dims.now before tokens.old) tokens.new }
 {
     tokens.sign(b',')?;
@@ -51,11 +52,11 @@ fn next_parameter(
 fn parameter_names(
     alloc: Global,
     tokens: &mut Tokens<'_>,
-    dims: &[Name],
-) -> Result<Items<Name>, Refusal>
+    dims: &Names,
+) -> Result<Names, Refusal>
     ensures { Takes result (bind (spec.parameter_name dims.now []) (many (tok.at_sign 44) (spec.next_parameter dims.now)) tokens.old) tokens.new }
 {
-    let mut names = parameter_name(alloc, tokens, dims, Items::new(alloc))?;
+    let mut names = parameter_name(alloc, tokens, dims, Names::new(alloc))?;
     'names: while tokens.next_is(b',') {
         names = next_parameter(alloc, tokens, dims, names)?;
     }
@@ -68,13 +69,13 @@ fn parameter_list(
     alloc: Global,
     tokens: &mut Tokens<'_>,
     close: u8,
-    dims: &[Name],
-) -> Result<Items<Name>, Refusal>
+    dims: &Names,
+) -> Result<Names, Refusal>
     ensures { Takes result (spec.parameter_list close dims.now tokens.old) tokens.new }
 {
     if tokens.next_is(close) {
         tokens.sign(close)?;
-        return Ok(Items::new(alloc));
+        return Ok(Names::new(alloc));
     }
     let names = parameter_names(alloc, tokens, dims)?;
     tokens.sign(close)?;
@@ -85,12 +86,12 @@ fn parameter_list(
 fn symbol_list(
     alloc: Global,
     tokens: &mut Tokens<'_>,
-    dims: &[Name],
-) -> Result<Items<Name>, Refusal>
+    dims: &Names,
+) -> Result<Names, Refusal>
     ensures { Takes result (optional (tok.at_sign 91) (spec.symbol_list dims.now) [] tokens.old) tokens.new }
 {
     if !tokens.next_is(b'[') {
-        return Ok(Items::new(alloc));
+        return Ok(Names::new(alloc));
     }
     tokens.sign(b'[')?;
     parameter_list(alloc, tokens, b']', dims)
@@ -101,8 +102,8 @@ fn params(alloc: Global, tokens: &mut Tokens<'_>) -> Result<Scope, Refusal>
     ensures { Takes result (spec.params tokens.old) tokens.new }
 {
     tokens.sign(b'(')?;
-    let dims = parameter_list(alloc, tokens, b')', &[])?;
-    let syms = symbol_list(alloc, tokens, dims.as_slice())?;
+    let dims = parameter_list(alloc, tokens, b')', &Names::new(alloc))?;
+    let syms = symbol_list(alloc, tokens, &dims)?;
     Ok(Scope { dims, syms })
 }
 
@@ -150,7 +151,7 @@ fn results(
     tokens.sign(b'(')?;
     let results = some_results(alloc, tokens, Leaves::Parameters, several, state)?;
     tokens.sign(b')')?;
-    Ok(results)
+    Ok(fitted(alloc, results)?)
 }
 
 /// What the expressions over these parameters are read with.
@@ -250,7 +251,7 @@ fn rows(
     tokens.sign(b'(')?;
     let rows = some_rows(alloc, tokens, state)?;
     tokens.sign(b')')?;
-    Ok(rows)
+    Ok(fitted(alloc, rows)?)
 }
 
 /// A set, and the operands of the module up to its end.
@@ -355,14 +356,14 @@ pub fn operands(
 {
     let mut operands = values(alloc, tokens, b'(', b')', dims)?;
     operands.append(symbol_values(alloc, tokens, syms)?)?;
-    Ok(operands)
+    Ok(fitted(alloc, operands)?)
 }
 
 #[tactic(auto, unfolding(affine_grammar::specs::Reading::some_map))]
 fn some_map(
     alloc: Global,
     tokens: &mut Tokens<'_>,
-    aliases: &[Alias],
+    aliases: &Aliases,
     several: bool,
     total: u32,
 ) -> Result<(Map, u32), Refusal>
@@ -379,7 +380,7 @@ fn some_map(
 pub fn some_set(
     alloc: Global,
     tokens: &mut Tokens<'_>,
-    aliases: &[Alias],
+    aliases: &Aliases,
     total: u32,
 ) -> Result<(Set, u32), Refusal>
     ensures { Takes result (spec.some_set aliases.now total tokens.old) tokens.new }
@@ -395,7 +396,7 @@ pub fn some_set(
 pub fn use_of(
     alloc: Global,
     tokens: &mut Tokens<'_>,
-    aliases: &[Alias],
+    aliases: &Aliases,
     several: bool,
     total: u32,
 ) -> Result<(Access, u32), Refusal>
@@ -407,21 +408,24 @@ pub fn use_of(
 }
 
 /// The map of subscripts: its dimensions and symbols are the values that have stood.
-fn access_of(results: Items<Expr>, state: State) -> Result<(Access, u32), Refusal>
+fn access_of(
+    alloc: Global,
+    results: Items<Expr>,
+    state: State,
+) -> Result<(Access, u32), Refusal>
     ensures { MatchResult result (λ read. read ≡ access_with (results, state)) (λ refusal. refusal ≡ Memory) }
 {
     let State {
-        total,
-        dims: mut operands,
-        syms,
-        ..
+        total, dims, syms, ..
     } = state;
     let map = Map {
-        dims: numbered(operands.len())?,
+        dims: numbered(dims.len())?,
         syms: numbered(syms.len())?,
         results,
     };
-    operands.append(syms)?;
+    let mut operands = dims.into_items();
+    operands.append(syms.into_items())?;
+    let operands = fitted(alloc, operands)?;
     Ok((Access { map, operands }, total))
 }
 
@@ -439,7 +443,7 @@ fn subscript_list(
     }
     let results = some_results(alloc, tokens, Leaves::Values, true, state)?;
     tokens.sign(b']')?;
-    Ok(results)
+    Ok(fitted(alloc, results)?)
 }
 
 #[tactic(auto, unfolding(affine_grammar::specs::Reading::subscripts))]
@@ -454,11 +458,11 @@ pub fn subscripts(
     let mut state = State {
         operands: 0,
         total,
-        dims: Items::new(alloc),
-        syms: Items::new(alloc),
+        dims: Names::new(alloc),
+        syms: Names::new(alloc),
     };
     let results = subscript_list(alloc, tokens, &mut state)?;
-    access_of(results, state)
+    access_of(alloc, results, state)
 }
 
 #[tactic(auto, using(affine_grammar::proofs::Steps::value_more, affine_grammar::proofs::Steps::value_done, affine_grammar::proofs::Steps::value_shorter))]
@@ -484,5 +488,5 @@ pub fn brackets(alloc: Global, tokens: &mut Tokens<'_>) -> Result<Items<Name>, R
     }
     let values = some_values(alloc, tokens)?;
     tokens.sign(b']')?;
-    Ok(values)
+    Ok(fitted(alloc, values)?)
 }

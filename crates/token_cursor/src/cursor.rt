@@ -13,25 +13,29 @@ use crate::words::{action_of, definition_of, element_of, int_type_of, product_wo
 use affine_ast::{Element, Name, Scalar, Text};
 use affine_expr::Rel;
 use affine_grammar::{Action, Definition, Operator};
-use affine_lex::{Kind, Token};
+use affine_lex::{Kind, Scanner, Token};
 use std::alloc::Global;
 use std::marker::Model;
 
-/// The tokens that are left of a text, without its end.
+/// The tokens that are left of a text, without its end. They are cut from its bytes as they are read.
 #[derive(Drop)]
 pub struct Tokens<'a> {
     pub(crate) source: &'a [u8],
-    pub(crate) rest: &'a [Token],
+    /// The next token, where one is left.
+    pub(crate) next: Option<Token>,
+    /// What stands behind it.
+    pub(crate) rest: Scanner<'a>,
 }
 
 impl<'a> Model for Tokens<'a> {
     ghost use Rattle.std.specs.Prelude.{List};
     ghost use Rattle.affine_grammar.specs.Spelling.{tokens_of};
     ghost use Rattle.affine_grammar.specs.Token.{Tok};
+    ghost use Rattle.affine_lex.specs.Scan.{with_next};
 
     ghost Value = { List Tok };
 
-    ghost view = { λ t. tokens_of t.source.now t.rest.now };
+    ghost view = { λ t. tokens_of t.source.now (with_next t.next t.rest) };
 }
 
 /// The bytes of a token.
@@ -62,23 +66,22 @@ pub(crate) fn negated(n: u64) -> i64
 }
 
 impl<'a> Tokens<'a> {
-    /// The tokens of a text, without its end.
-    pub fn new(source: &'a [u8], tokens: &'a [Token]) -> Tokens<'a>
-        ensures { result ≡ tokens_of source.now tokens.now }
+    /// The tokens of a text that are left to a scanner of it.
+    pub fn new(source: &'a [u8], scanner: Scanner<'a>) -> Tokens<'a>
+        ensures { result ≡ tokens_of source.now scanner.entry }
     {
-        Tokens {
-            source,
-            rest: tokens,
-        }
+        let mut rest = scanner;
+        let next = rest.next_token();
+        Tokens { source, next, rest }
     }
 
     /// Whether none is left.
     pub fn is_done(&self) -> bool
         ensures { IsTrue result ↔ (self.now ≡ []) }
     {
-        match self.rest {
-            [] => true,
-            [_first, ..] => false,
+        match self.next {
+            None => true,
+            Some(_) => false,
         }
     }
 
@@ -86,9 +89,9 @@ impl<'a> Tokens<'a> {
     pub fn place(&self, end: Token) -> (u32, u32)
         ensures { Stands self.now end result.0 result.1 }
     {
-        match self.rest {
-            [first, ..] => (first.line, first.column),
-            [] => (end.line, end.column),
+        match self.next {
+            Some(first) => (first.line, first.column),
+            None => (end.line, end.column),
         }
     }
 
@@ -96,12 +99,12 @@ impl<'a> Tokens<'a> {
     pub fn next_is(&self, mark: u8) -> bool
         ensures { result ≡ tok.at_sign mark (head self.now) }
     {
-        match self.rest {
-            [first, ..] => match first.kind {
+        match self.next {
+            Some(first) => match first.kind {
                 Kind::Punct(b) => b == mark,
                 _ => false,
             },
-            [] => false,
+            None => false,
         }
     }
 
@@ -109,12 +112,12 @@ impl<'a> Tokens<'a> {
     pub fn next_is_word(&self, word: &[u8]) -> bool
         ensures { result ≡ tok.at_word word.now (head self.now) }
     {
-        match self.rest {
-            [first, ..] => match first.kind {
-                Kind::Word => bytes_of(self.source, *first) == word,
+        match self.next {
+            Some(first) => match first.kind {
+                Kind::Word => bytes_of(self.source, first) == word,
                 _ => false,
             },
-            [] => false,
+            None => false,
         }
     }
 
@@ -122,9 +125,9 @@ impl<'a> Tokens<'a> {
     pub fn at_number(&self) -> bool
         ensures { result ≡ tok.at_number (head self.now) }
     {
-        match self.rest {
-            [first, ..] => matches!(first.kind, Kind::Int(_)),
-            [] => false,
+        match self.next {
+            Some(first) => matches!(first.kind, Kind::Int(_)),
+            None => false,
         }
     }
 
@@ -132,9 +135,9 @@ impl<'a> Tokens<'a> {
     pub fn at_value(&self) -> bool
         ensures { result ≡ tok.at_value (head self.now) }
     {
-        match self.rest {
-            [first, ..] => matches!(first.kind, Kind::Value),
-            [] => false,
+        match self.next {
+            Some(first) => matches!(first.kind, Kind::Value),
+            None => false,
         }
     }
 
@@ -142,9 +145,9 @@ impl<'a> Tokens<'a> {
     pub fn at_alias(&self) -> bool
         ensures { result ≡ tok.at_alias (head self.now) }
     {
-        match self.rest {
-            [first, ..] => matches!(first.kind, Kind::Alias),
-            [] => false,
+        match self.next {
+            Some(first) => matches!(first.kind, Kind::Alias),
+            None => false,
         }
     }
 
@@ -152,9 +155,9 @@ impl<'a> Tokens<'a> {
     pub fn at_size(&self) -> bool
         ensures { result ≡ tok.at_size (head self.now) }
     {
-        match self.rest {
-            [first, ..] => matches!(first.kind, Kind::Sizes),
-            [] => false,
+        match self.next {
+            Some(first) => matches!(first.kind, Kind::Sizes),
+            None => false,
         }
     }
 
@@ -162,13 +165,13 @@ impl<'a> Tokens<'a> {
     pub fn at_integer(&self) -> bool
         ensures { result ≡ tok.at_integer (head self.now) }
     {
-        match self.rest {
-            [first, ..] => match first.kind {
+        match self.next {
+            Some(first) => match first.kind {
                 Kind::Punct(b) => b == b'-',
                 Kind::Int(_) => true,
                 _ => false,
             },
-            [] => false,
+            None => false,
         }
     }
 
@@ -176,12 +179,12 @@ impl<'a> Tokens<'a> {
     pub fn at_sum(&self) -> bool
         ensures { result ≡ tok.at_sum (head self.now) }
     {
-        match self.rest {
-            [first, ..] => match first.kind {
+        match self.next {
+            Some(first) => match first.kind {
                 Kind::Punct(b) => b == b'+' || b == b'-',
                 _ => false,
             },
-            [] => false,
+            None => false,
         }
     }
 
@@ -189,13 +192,13 @@ impl<'a> Tokens<'a> {
     pub fn at_product(&self) -> bool
         ensures { result ≡ tok.at_product (head self.now) }
     {
-        match self.rest {
-            [first, ..] => match first.kind {
+        match self.next {
+            Some(first) => match first.kind {
                 Kind::Punct(b) => b == b'*',
-                Kind::Word => product_word(bytes_of(self.source, *first)).is_some(),
+                Kind::Word => product_word(bytes_of(self.source, first)).is_some(),
                 _ => false,
             },
-            [] => false,
+            None => false,
         }
     }
 
@@ -203,13 +206,13 @@ impl<'a> Tokens<'a> {
     pub fn at_statement(&self) -> bool
         ensures { result ≡ tok.at_stmt (head self.now) }
     {
-        match self.rest {
-            [first, ..] => match first.kind {
+        match self.next {
+            Some(first) => match first.kind {
                 Kind::Value => true,
-                Kind::Word => action_of(bytes_of(self.source, *first)).is_some(),
+                Kind::Word => action_of(bytes_of(self.source, first)).is_some(),
                 _ => false,
             },
-            [] => false,
+            None => false,
         }
     }
 
@@ -217,15 +220,15 @@ impl<'a> Tokens<'a> {
     pub fn sign(&mut self, mark: u8) -> Result<(), Refusal>
         ensures { Takes result (take_by (tok.sign mark) self.old) self.new }
     {
-        match self.rest {
-            [first, rest @ ..] => match first.kind {
+        match self.next {
+            Some(first) => match first.kind {
                 Kind::Punct(b) if b == mark => {
-                    self.rest = rest;
+                    self.next = self.rest.next_token();
                     Ok(())
                 }
                 _ => Err(Refusal::Here),
             },
-            [] => Err(Refusal::Here),
+            None => Err(Refusal::Here),
         }
     }
 
@@ -233,15 +236,15 @@ impl<'a> Tokens<'a> {
     pub fn word(&mut self, word: &[u8]) -> Result<(), Refusal>
         ensures { Takes result (take_by (tok.word word.now) self.old) self.new }
     {
-        match self.rest {
-            [first, rest @ ..] => match first.kind {
-                Kind::Word if bytes_of(self.source, *first) == word => {
-                    self.rest = rest;
+        match self.next {
+            Some(first) => match first.kind {
+                Kind::Word if bytes_of(self.source, first) == word => {
+                    self.next = self.rest.next_token();
                     Ok(())
                 }
                 _ => Err(Refusal::Here),
             },
-            [] => Err(Refusal::Here),
+            None => Err(Refusal::Here),
         }
     }
 
@@ -249,15 +252,15 @@ impl<'a> Tokens<'a> {
     pub fn arrow(&mut self) -> Result<(), Refusal>
         ensures { Takes result (take_by tok.arrow self.old) self.new }
     {
-        match self.rest {
-            [first, rest @ ..] => match first.kind {
+        match self.next {
+            Some(first) => match first.kind {
                 Kind::Arrow => {
-                    self.rest = rest;
+                    self.next = self.rest.next_token();
                     Ok(())
                 }
                 _ => Err(Refusal::Here),
             },
-            [] => Err(Refusal::Here),
+            None => Err(Refusal::Here),
         }
     }
 
@@ -265,18 +268,18 @@ impl<'a> Tokens<'a> {
     pub fn relation(&mut self) -> Result<Rel, Refusal>
         ensures { Takes result (take_by tok.relation self.old) self.new }
     {
-        match self.rest {
-            [first, rest @ ..] => {
+        match self.next {
+            Some(first) => {
                 let relation = match first.kind {
                     Kind::GreaterEqual => Rel::Ge,
                     Kind::LessEqual => Rel::Le,
                     Kind::Equal => Rel::Eq,
                     _ => return Err(Refusal::Here),
                 };
-                self.rest = rest;
+                self.next = self.rest.next_token();
                 Ok(relation)
             }
-            [] => Err(Refusal::Here),
+            None => Err(Refusal::Here),
         }
     }
 
@@ -284,16 +287,16 @@ impl<'a> Tokens<'a> {
     pub fn value(&mut self, alloc: Global) -> Result<Name, Refusal>
         ensures { Takes result (take_by tok.value self.old) self.new }
     {
-        match self.rest {
-            [first, rest @ ..] => match first.kind {
+        match self.next {
+            Some(first) => match first.kind {
                 Kind::Value => {
-                    let name = named(alloc, behind_first(bytes_of(self.source, *first)))?;
-                    self.rest = rest;
+                    let name = named(alloc, behind_first(bytes_of(self.source, first)))?;
+                    self.next = self.rest.next_token();
                     Ok(name)
                 }
                 _ => Err(Refusal::Here),
             },
-            [] => Err(Refusal::Here),
+            None => Err(Refusal::Here),
         }
     }
 
@@ -301,16 +304,16 @@ impl<'a> Tokens<'a> {
     pub fn value_on_line(&mut self, alloc: Global) -> Result<(u32, Name), Refusal>
         ensures { Takes result (take_by (tok.lined tok.value) self.old) self.new }
     {
-        match self.rest {
-            [first, rest @ ..] => match first.kind {
+        match self.next {
+            Some(first) => match first.kind {
                 Kind::Value => {
-                    let name = named(alloc, behind_first(bytes_of(self.source, *first)))?;
-                    self.rest = rest;
+                    let name = named(alloc, behind_first(bytes_of(self.source, first)))?;
+                    self.next = self.rest.next_token();
                     Ok((first.line, name))
                 }
                 _ => Err(Refusal::Here),
             },
-            [] => Err(Refusal::Here),
+            None => Err(Refusal::Here),
         }
     }
 
@@ -318,15 +321,15 @@ impl<'a> Tokens<'a> {
     pub fn word_on_line(&mut self, word: &[u8]) -> Result<(u32, ()), Refusal>
         ensures { Takes result (take_by (tok.lined (tok.word word.now)) self.old) self.new }
     {
-        match self.rest {
-            [first, rest @ ..] => match first.kind {
-                Kind::Word if bytes_of(self.source, *first) == word => {
-                    self.rest = rest;
+        match self.next {
+            Some(first) => match first.kind {
+                Kind::Word if bytes_of(self.source, first) == word => {
+                    self.next = self.rest.next_token();
                     Ok((first.line, ()))
                 }
                 _ => Err(Refusal::Here),
             },
-            [] => Err(Refusal::Here),
+            None => Err(Refusal::Here),
         }
     }
 
@@ -334,16 +337,16 @@ impl<'a> Tokens<'a> {
     pub fn function_name(&mut self, alloc: Global) -> Result<Text, Refusal>
         ensures { Takes result (take_by tok.function_name self.old) self.new }
     {
-        match self.rest {
-            [first, rest @ ..] => match first.kind {
+        match self.next {
+            Some(first) => match first.kind {
                 Kind::Symbol => {
-                    let name = text_of(alloc, behind_first(bytes_of(self.source, *first)))?;
-                    self.rest = rest;
+                    let name = text_of(alloc, behind_first(bytes_of(self.source, first)))?;
+                    self.next = self.rest.next_token();
                     Ok(name)
                 }
                 _ => Err(Refusal::Here),
             },
-            [] => Err(Refusal::Here),
+            None => Err(Refusal::Here),
         }
     }
 
@@ -351,15 +354,15 @@ impl<'a> Tokens<'a> {
     pub fn integer(&mut self) -> Result<i64, Refusal>
         ensures { Takes result (take_by tok.integer self.old) self.new }
     {
-        match self.rest {
-            [first, rest @ ..] => match first.kind {
+        match self.next {
+            Some(first) => match first.kind {
                 Kind::Int(n) if n <= 9_223_372_036_854_775_807 => {
-                    self.rest = rest;
+                    self.next = self.rest.next_token();
                     Ok(n as i64)
                 }
                 _ => Err(Refusal::Here),
             },
-            [] => Err(Refusal::Here),
+            None => Err(Refusal::Here),
         }
     }
 
@@ -367,15 +370,15 @@ impl<'a> Tokens<'a> {
     pub fn negative(&mut self) -> Result<i64, Refusal>
         ensures { Takes result (take_by tok.negative self.old) self.new }
     {
-        match self.rest {
-            [first, rest @ ..] => match first.kind {
+        match self.next {
+            Some(first) => match first.kind {
                 Kind::Int(n) if n <= 9_223_372_036_854_775_808 => {
-                    self.rest = rest;
+                    self.next = self.rest.next_token();
                     Ok(negated(n))
                 }
                 _ => Err(Refusal::Here),
             },
-            [] => Err(Refusal::Here),
+            None => Err(Refusal::Here),
         }
     }
 }

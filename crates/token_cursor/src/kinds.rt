@@ -6,6 +6,7 @@ ghost use Rattle.readers.specs.Limits.{limited};
 ghost use Rattle.readers.specs.Readers.{take_by};
 ghost use Rattle.affine_grammar.specs.Spelling.{tokens_of};
 ghost use Rattle.affine_grammar.specs.Token as tok;
+ghost use Rattle.affine_lex.specs.Scan.{with_next};
 ghost use Rattle.token_cursor.specs.Input.{Takes};
 
 use crate::cursor::{Tokens, bytes_of};
@@ -13,7 +14,7 @@ use crate::refusal::Refusal;
 use crate::words::{action_of, definition_of, element_of, int_type_of, product_word, scalar_of};
 use affine_ast::{Element, Scalar};
 use affine_grammar::{Action, Definition, Operator};
-use affine_lex::{Kind, Token};
+use affine_lex::{Kind, Scanner, Token};
 
 /// One more than the greatest size.
 const SIZE_END: u64 = 4_294_967_296;
@@ -62,8 +63,8 @@ fn before_last(bytes: &[u8]) -> &[u8]
 }
 
 #[tactic(auto, using(crate::proofs::Braces::brace_refused))]
-fn one_brace_too_many(source: &[u8], rest: &[Token]) -> Result<(), Refusal>
-    ensures { Takes result (take_by (limited true (tok.sign 123)) (tokens_of source.now rest.now)) (tokens_of source.now rest.now) }
+fn one_brace_too_many(source: &[u8], next: Option<Token>, rest: &Scanner<'_>) -> Result<(), Refusal>
+    ensures { Takes result (take_by (limited true (tok.sign 123)) (tokens_of source.now (with_next next rest.now))) (tokens_of source.now (with_next next rest.now)) }
 {
     Err(Refusal::Here)
 }
@@ -73,18 +74,18 @@ impl<'a> Tokens<'a> {
     pub fn size(&mut self) -> Result<u32, Refusal>
         ensures { Takes result (take_by tok.size self.old) self.new }
     {
-        match self.rest {
-            [first, rest @ ..] => match first.kind {
-                Kind::Sizes => match size_of(before_last(bytes_of(self.source, *first))) {
+        match self.next {
+            Some(first) => match first.kind {
+                Kind::Sizes => match size_of(before_last(bytes_of(self.source, first))) {
                     Some(size) => {
-                        self.rest = rest;
+                        self.next = self.rest.next_token();
                         Ok(size)
                     }
                     None => Err(Refusal::Here),
                 },
                 _ => Err(Refusal::Here),
             },
-            [] => Err(Refusal::Here),
+            None => Err(Refusal::Here),
         }
     }
 
@@ -92,15 +93,15 @@ impl<'a> Tokens<'a> {
     pub fn space(&mut self) -> Result<u8, Refusal>
         ensures { Takes result (take_by tok.space self.old) self.new }
     {
-        match self.rest {
-            [first, rest @ ..] => match first.kind {
+        match self.next {
+            Some(first) => match first.kind {
                 Kind::Int(n) if n <= 255 => {
-                    self.rest = rest;
+                    self.next = self.rest.next_token();
                     Ok(n as u8)
                 }
                 _ => Err(Refusal::Here),
             },
-            [] => Err(Refusal::Here),
+            None => Err(Refusal::Here),
         }
     }
 
@@ -108,18 +109,18 @@ impl<'a> Tokens<'a> {
     pub fn element(&mut self) -> Result<Element, Refusal>
         ensures { Takes result (take_by tok.element self.old) self.new }
     {
-        match self.rest {
-            [first, rest @ ..] => match first.kind {
-                Kind::Word => match element_of(bytes_of(self.source, *first)) {
+        match self.next {
+            Some(first) => match first.kind {
+                Kind::Word => match element_of(bytes_of(self.source, first)) {
                     Some(element) => {
-                        self.rest = rest;
+                        self.next = self.rest.next_token();
                         Ok(element)
                     }
                     None => Err(Refusal::Here),
                 },
                 _ => Err(Refusal::Here),
             },
-            [] => Err(Refusal::Here),
+            None => Err(Refusal::Here),
         }
     }
 
@@ -127,18 +128,18 @@ impl<'a> Tokens<'a> {
     pub fn scalar(&mut self) -> Result<Scalar, Refusal>
         ensures { Takes result (take_by tok.scalar self.old) self.new }
     {
-        match self.rest {
-            [first, rest @ ..] => match first.kind {
-                Kind::Word => match scalar_of(bytes_of(self.source, *first)) {
+        match self.next {
+            Some(first) => match first.kind {
+                Kind::Word => match scalar_of(bytes_of(self.source, first)) {
                     Some(scalar) => {
-                        self.rest = rest;
+                        self.next = self.rest.next_token();
                         Ok(scalar)
                     }
                     None => Err(Refusal::Here),
                 },
                 _ => Err(Refusal::Here),
             },
-            [] => Err(Refusal::Here),
+            None => Err(Refusal::Here),
         }
     }
 
@@ -146,18 +147,18 @@ impl<'a> Tokens<'a> {
     pub fn int_type(&mut self) -> Result<(), Refusal>
         ensures { Takes result (take_by tok.int_type self.old) self.new }
     {
-        match self.rest {
-            [first, rest @ ..] => match first.kind {
-                Kind::Word => match int_type_of(bytes_of(self.source, *first)) {
+        match self.next {
+            Some(first) => match first.kind {
+                Kind::Word => match int_type_of(bytes_of(self.source, first)) {
                     Some(()) => {
-                        self.rest = rest;
+                        self.next = self.rest.next_token();
                         Ok(())
                     }
                     None => Err(Refusal::Here),
                 },
                 _ => Err(Refusal::Here),
             },
-            [] => Err(Refusal::Here),
+            None => Err(Refusal::Here),
         }
     }
 
@@ -165,19 +166,19 @@ impl<'a> Tokens<'a> {
     pub fn sum_operator(&mut self) -> Result<Operator, Refusal>
         ensures { Takes result (take_by tok.sum_op self.old) self.new }
     {
-        match self.rest {
-            [first, rest @ ..] => match first.kind {
+        match self.next {
+            Some(first) => match first.kind {
                 Kind::Punct(b'+') => {
-                    self.rest = rest;
+                    self.next = self.rest.next_token();
                     Ok(Operator::Add)
                 }
                 Kind::Punct(b'-') => {
-                    self.rest = rest;
+                    self.next = self.rest.next_token();
                     Ok(Operator::Sub)
                 }
                 _ => Err(Refusal::Here),
             },
-            [] => Err(Refusal::Here),
+            None => Err(Refusal::Here),
         }
     }
 
@@ -185,22 +186,22 @@ impl<'a> Tokens<'a> {
     pub fn product_operator(&mut self) -> Result<Operator, Refusal>
         ensures { Takes result (take_by tok.product_op self.old) self.new }
     {
-        match self.rest {
-            [first, rest @ ..] => match first.kind {
+        match self.next {
+            Some(first) => match first.kind {
                 Kind::Punct(b'*') => {
-                    self.rest = rest;
+                    self.next = self.rest.next_token();
                     Ok(Operator::Mul)
                 }
-                Kind::Word => match product_word(bytes_of(self.source, *first)) {
+                Kind::Word => match product_word(bytes_of(self.source, first)) {
                     Some(operator) => {
-                        self.rest = rest;
+                        self.next = self.rest.next_token();
                         Ok(operator)
                     }
                     None => Err(Refusal::Here),
                 },
                 _ => Err(Refusal::Here),
             },
-            [] => Err(Refusal::Here),
+            None => Err(Refusal::Here),
         }
     }
 
@@ -208,18 +209,18 @@ impl<'a> Tokens<'a> {
     pub fn definition(&mut self) -> Result<Definition, Refusal>
         ensures { Takes result (take_by tok.definition_word self.old) self.new }
     {
-        match self.rest {
-            [first, rest @ ..] => match first.kind {
-                Kind::Word => match definition_of(bytes_of(self.source, *first)) {
+        match self.next {
+            Some(first) => match first.kind {
+                Kind::Word => match definition_of(bytes_of(self.source, first)) {
                     Some(definition) => {
-                        self.rest = rest;
+                        self.next = self.rest.next_token();
                         Ok(definition)
                     }
                     None => Err(Refusal::Here),
                 },
                 _ => Err(Refusal::Here),
             },
-            [] => Err(Refusal::Here),
+            None => Err(Refusal::Here),
         }
     }
 
@@ -227,18 +228,18 @@ impl<'a> Tokens<'a> {
     pub fn action(&mut self) -> Result<(u32, Action), Refusal>
         ensures { Takes result (take_by (tok.lined tok.action_word) self.old) self.new }
     {
-        match self.rest {
-            [first, rest @ ..] => match first.kind {
-                Kind::Word => match action_of(bytes_of(self.source, *first)) {
+        match self.next {
+            Some(first) => match first.kind {
+                Kind::Word => match action_of(bytes_of(self.source, first)) {
                     Some(action) => {
-                        self.rest = rest;
+                        self.next = self.rest.next_token();
                         Ok((first.line, action))
                     }
                     None => Err(Refusal::Here),
                 },
                 _ => Err(Refusal::Here),
             },
-            [] => Err(Refusal::Here),
+            None => Err(Refusal::Here),
         }
     }
 
@@ -246,6 +247,6 @@ impl<'a> Tokens<'a> {
     pub fn brace_too_many(&mut self) -> Result<(), Refusal>
         ensures { Takes result (take_by (limited true (tok.sign 123)) self.old) self.new }
     {
-        one_brace_too_many(self.source, self.rest)
+        one_brace_too_many(self.source, self.next, &self.rest)
     }
 }

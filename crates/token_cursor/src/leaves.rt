@@ -12,9 +12,9 @@ use crate::names::{alias_in, named, number_of, text_of};
 use crate::refusal::Refusal;
 use affine_ast::{Name, Text};
 use affine_expr::{Expr, Map, Set};
-use affine_grammar::{Alias, Body, State};
+use affine_grammar::{Alias, Aliases, Body, State};
 use affine_lex::Kind;
-use sqlite_items::Items;
+use name_table::Names;
 use std::alloc::Global;
 
 /// The most operands of an expression, and of a module.
@@ -41,14 +41,14 @@ pub fn numbered(at: usize) -> Result<u32, Refusal>
 }
 
 /// The number of a value's first appearance; a new one is added.
-fn appearing(alloc: Global, text: &[u8], names: &mut Items<Name>) -> Result<u32, Refusal>
+fn appearing(alloc: Global, text: &[u8], names: &mut Names) -> Result<u32, Refusal>
     ensures { MatchResult result (λ number. (number, names.new) ≡ tok.appears text.now names.old) (λ refusal. refusal ≡ Memory) }
 {
-    match number_of(text, names.as_slice()) {
+    match number_of(text, names) {
         Some(at) => numbered(at),
         None => {
             let number = numbered(names.len())?;
-            names.push(named(alloc, text)?)?;
+            names.push(alloc, named(alloc, text)?)?;
             Ok(number)
         }
     }
@@ -56,7 +56,7 @@ fn appearing(alloc: Global, text: &[u8], names: &mut Items<Name>) -> Result<u32,
 
 /// Whether a name is in one of two lists.
 #[tactic(auto, using(crate::proofs::Lookup::known_in_either))]
-fn is_known(text: &[u8], dims: &[Name], names: &[Name]) -> bool
+fn is_known(text: &[u8], dims: &Names, names: &Names) -> bool
     ensures { result ≡ tok.is_there (tok.number_of text.now (dims.now ++ names.now)) }
 {
     number_of(text, dims).is_some() || number_of(text, names).is_some()
@@ -67,17 +67,17 @@ impl<'a> Tokens<'a> {
     pub fn number(&mut self, state: &mut State) -> Result<Expr, Refusal>
         ensures { Reads result (take_by (tok.number state.old) self.old) state.new self.new }
     {
-        match self.rest {
-            [first, rest @ ..] => match first.kind {
+        match self.next {
+            Some(first) => match first.kind {
                 Kind::Int(n) if !is_full(state) && n <= 9_223_372_036_854_775_807 => {
-                    self.rest = rest;
+                    self.next = self.rest.next_token();
                     state.operands += 1;
                     state.total += 1;
                     Ok(Expr::Const(n as i64))
                 }
                 _ => Err(Refusal::Here),
             },
-            [] => Err(Refusal::Here),
+            None => Err(Refusal::Here),
         }
     }
 
@@ -85,17 +85,17 @@ impl<'a> Tokens<'a> {
     pub fn negative_number(&mut self, state: &mut State) -> Result<Expr, Refusal>
         ensures { Reads result (take_by (tok.negative_number state.old) self.old) state.new self.new }
     {
-        match self.rest {
-            [first, rest @ ..] => match first.kind {
+        match self.next {
+            Some(first) => match first.kind {
                 Kind::Int(n) if !is_full(state) && n <= 9_223_372_036_854_775_808 => {
-                    self.rest = rest;
+                    self.next = self.rest.next_token();
                     state.operands += 1;
                     state.total += 1;
                     Ok(Expr::Const(negated(n)))
                 }
                 _ => Err(Refusal::Here),
             },
-            [] => Err(Refusal::Here),
+            None => Err(Refusal::Here),
         }
     }
 
@@ -103,18 +103,18 @@ impl<'a> Tokens<'a> {
     pub fn parameter(&mut self, state: &mut State) -> Result<Expr, Refusal>
         ensures { Reads result (take_by (tok.parameter state.old) self.old) state.new self.new }
     {
-        match self.rest {
-            [first, rest @ ..] => match first.kind {
+        match self.next {
+            Some(first) => match first.kind {
                 Kind::Word if !is_full(state) => {
-                    let leaf = parameter_of(bytes_of(self.source, *first), state)?;
-                    self.rest = rest;
+                    let leaf = parameter_of(bytes_of(self.source, first), state)?;
+                    self.next = self.rest.next_token();
                     state.operands += 1;
                     state.total += 1;
                     Ok(leaf)
                 }
                 _ => Err(Refusal::Here),
             },
-            [] => Err(Refusal::Here),
+            None => Err(Refusal::Here),
         }
     }
 
@@ -122,19 +122,19 @@ impl<'a> Tokens<'a> {
     pub fn dimension(&mut self, alloc: Global, state: &mut State) -> Result<Expr, Refusal>
         ensures { Reads result (take_by (tok.dimension state.old) self.old) state.new self.new }
     {
-        match self.rest {
-            [first, rest @ ..] => match first.kind {
+        match self.next {
+            Some(first) => match first.kind {
                 Kind::Value if !is_full(state) => {
-                    let text = behind_first(bytes_of(self.source, *first));
+                    let text = behind_first(bytes_of(self.source, first));
                     let number = appearing(alloc, text, &mut state.dims)?;
-                    self.rest = rest;
+                    self.next = self.rest.next_token();
                     state.operands += 1;
                     state.total += 1;
                     Ok(Expr::Dim(number))
                 }
                 _ => Err(Refusal::Here),
             },
-            [] => Err(Refusal::Here),
+            None => Err(Refusal::Here),
         }
     }
 
@@ -143,16 +143,16 @@ impl<'a> Tokens<'a> {
         ensures word { Takes result (take_by (tok.symbol_word state.now) self.old) self.new }
         ensures open { OnOk result (tok.is_full state.now ≡ false) }
     {
-        match self.rest {
-            [first, rest @ ..] => match first.kind {
+        match self.next {
+            Some(first) => match first.kind {
                 Kind::Word
-                    if !is_full(state) && bytes_of(self.source, *first) == b"symbol".as_slice() => {
-                    self.rest = rest;
+                    if !is_full(state) && bytes_of(self.source, first) == b"symbol".as_slice() => {
+                    self.next = self.rest.next_token();
                     Ok(())
                 }
                 _ => Err(Refusal::Here),
             },
-            [] => Err(Refusal::Here),
+            None => Err(Refusal::Here),
         }
     }
 
@@ -161,40 +161,40 @@ impl<'a> Tokens<'a> {
         requires { tok.is_full state.old ≡ false }
         ensures { Reads result (take_by (tok.symbol state.old) self.old) state.new self.new }
     {
-        match self.rest {
-            [first, rest @ ..] => match first.kind {
+        match self.next {
+            Some(first) => match first.kind {
                 Kind::Value => {
-                    let text = behind_first(bytes_of(self.source, *first));
+                    let text = behind_first(bytes_of(self.source, first));
                     let number = appearing(alloc, text, &mut state.syms)?;
-                    self.rest = rest;
+                    self.next = self.rest.next_token();
                     state.operands += 1;
                     state.total += 1;
                     Ok(Expr::Sym(number))
                 }
                 _ => Err(Refusal::Here),
             },
-            [] => Err(Refusal::Here),
+            None => Err(Refusal::Here),
         }
     }
 
     /// A parameter that is none of these.
-    pub fn fresh(&mut self, alloc: Global, dims: &[Name], names: &[Name]) -> Result<Name, Refusal>
+    pub fn fresh(&mut self, alloc: Global, dims: &Names, names: &Names) -> Result<Name, Refusal>
         ensures { Takes result (take_by (tok.fresh (dims.now ++ names.now)) self.old) self.new }
     {
-        match self.rest {
-            [first, rest @ ..] => match first.kind {
+        match self.next {
+            Some(first) => match first.kind {
                 Kind::Word => {
-                    let text = bytes_of(self.source, *first);
+                    let text = bytes_of(self.source, first);
                     if is_known(text, dims, names) {
                         return Err(Refusal::Here);
                     }
                     let name = named(alloc, text)?;
-                    self.rest = rest;
+                    self.next = self.rest.next_token();
                     Ok(name)
                 }
                 _ => Err(Refusal::Here),
             },
-            [] => Err(Refusal::Here),
+            None => Err(Refusal::Here),
         }
     }
 
@@ -202,36 +202,36 @@ impl<'a> Tokens<'a> {
     pub fn comma(&mut self, most: usize, several: bool, count: usize) -> Result<(), Refusal>
         ensures { Takes result (take_by (tok.comma_within most several count) self.old) self.new }
     {
-        match self.rest {
-            [first, rest @ ..] => match first.kind {
+        match self.next {
+            Some(first) => match first.kind {
                 Kind::Punct(b',') if several && count < most => {
-                    self.rest = rest;
+                    self.next = self.rest.next_token();
                     Ok(())
                 }
                 _ => Err(Refusal::Here),
             },
-            [] => Err(Refusal::Here),
+            None => Err(Refusal::Here),
         }
     }
 
     /// The name of an alias that isn't defined yet.
-    pub fn new_alias(&mut self, alloc: Global, aliases: &[Alias]) -> Result<Text, Refusal>
+    pub fn new_alias(&mut self, alloc: Global, aliases: &Aliases) -> Result<Text, Refusal>
         ensures { Takes result (take_by (tok.new_alias aliases.now) self.old) self.new }
     {
-        match self.rest {
-            [first, rest @ ..] => match first.kind {
+        match self.next {
+            Some(first) => match first.kind {
                 Kind::Alias => {
-                    let text = behind_first(bytes_of(self.source, *first));
+                    let text = behind_first(bytes_of(self.source, first));
                     if alias_in(text, aliases).is_some() {
                         return Err(Refusal::Here);
                     }
                     let name = text_of(alloc, text)?;
-                    self.rest = rest;
+                    self.next = self.rest.next_token();
                     Ok(name)
                 }
                 _ => Err(Refusal::Here),
             },
-            [] => Err(Refusal::Here),
+            None => Err(Refusal::Here),
         }
     }
 
@@ -239,26 +239,26 @@ impl<'a> Tokens<'a> {
     pub fn alias_map(
         &mut self,
         alloc: Global,
-        aliases: &[Alias],
+        aliases: &Aliases,
         several: bool,
         total: u32,
     ) -> Result<(Map, u32), Refusal>
         ensures { Takes result (take_by (tok.alias_map aliases.now several total) self.old) self.new }
     {
-        match self.rest {
-            [first, rest @ ..] => match first.kind {
+        match self.next {
+            Some(first) => match first.kind {
                 Kind::Alias => {
-                    let text = behind_first(bytes_of(self.source, *first));
+                    let text = behind_first(bytes_of(self.source, first));
                     let Some(alias) = alias_in(text, aliases) else {
                         return Err(Refusal::Here);
                     };
                     let read = map_of(alloc, alias, several, total)?;
-                    self.rest = rest;
+                    self.next = self.rest.next_token();
                     Ok(read)
                 }
                 _ => Err(Refusal::Here),
             },
-            [] => Err(Refusal::Here),
+            None => Err(Refusal::Here),
         }
     }
 
@@ -266,25 +266,25 @@ impl<'a> Tokens<'a> {
     pub fn alias_set(
         &mut self,
         alloc: Global,
-        aliases: &[Alias],
+        aliases: &Aliases,
         total: u32,
     ) -> Result<(Set, u32), Refusal>
         ensures { Takes result (take_by (tok.alias_set aliases.now total) self.old) self.new }
     {
-        match self.rest {
-            [first, rest @ ..] => match first.kind {
+        match self.next {
+            Some(first) => match first.kind {
                 Kind::Alias => {
-                    let text = behind_first(bytes_of(self.source, *first));
+                    let text = behind_first(bytes_of(self.source, first));
                     let Some(alias) = alias_in(text, aliases) else {
                         return Err(Refusal::Here);
                     };
                     let read = set_of(alloc, alias, total)?;
-                    self.rest = rest;
+                    self.next = self.rest.next_token();
                     Ok(read)
                 }
                 _ => Err(Refusal::Here),
             },
-            [] => Err(Refusal::Here),
+            None => Err(Refusal::Here),
         }
     }
 }
@@ -293,10 +293,10 @@ impl<'a> Tokens<'a> {
 fn parameter_of(text: &[u8], state: &State) -> Result<Expr, Refusal>
     ensures { Finds result (tok.parameter_of state.now text.now) (tok.counting state.now) }
 {
-    if let Some(at) = number_of(text, state.dims.as_slice()) {
+    if let Some(at) = number_of(text, &state.dims) {
         return Ok(Expr::Dim(numbered(at)?));
     }
-    match number_of(text, state.syms.as_slice()) {
+    match number_of(text, &state.syms) {
         Some(at) => Ok(Expr::Sym(numbered(at)?)),
         None => Err(Refusal::Here),
     }

@@ -7,10 +7,12 @@
 mod cursor;
 mod kinds;
 mod leaves;
+mod lists;
 mod names;
 mod refusal;
 mod words;
 
 pub use cursor::Tokens;
 pub use leaves::numbered;
+pub use lists::fitted;
 pub use refusal::Refusal;

@@ -3,7 +3,8 @@ ghost use Rattle.std.specs.Prelude.{◌≡◌, ◌&&◌, ◌++◌, true, IfOk, I
 ghost use Rattle.affine_grammar.specs.Token as tok;
 
 use affine_ast::{Name, Text};
-use affine_grammar::Alias;
+use affine_grammar::{Alias, Aliases};
+use name_table::Names;
 use std::alloc::{AllocError, Global};
 
 /// Whether all bytes are ASCII.
@@ -42,25 +43,17 @@ pub(crate) fn named(alloc: Global, bytes: &[u8]) -> Result<Name, AllocError>
 }
 
 /// The number of a name in a list, counted from 0.
-pub(crate) fn number_of(text: &[u8], names: &[Name]) -> Option<usize>
+#[tactic(auto, using(crate::proofs::Lookup::number_by_place))]
+pub(crate) fn number_of(text: &[u8], names: &Names) -> Option<usize>
     ensures { result ≡ tok.number_of text.now names.now }
 {
-    'names: for (at, name) in names.iter().enumerate() {
-        if name.text.as_str().as_bytes() == text {
-            return Some(at);
-        }
-    }
-    None
+    names.place_of(text)
 }
 
 /// The alias with a name.
-pub(crate) fn alias_in<'a>(text: &[u8], aliases: &'a [Alias]) -> Option<&'a Alias>
+#[tactic(auto, using(crate::proofs::Lookup::alias_by_name))]
+pub(crate) fn alias_in<'a>(text: &[u8], aliases: &'a Aliases) -> Option<&'a Alias>
     ensures { option_copied result ≡ tok.alias_in text.now aliases.now }
 {
-    'aliases: for alias in aliases {
-        if alias.name.as_str().as_bytes() == text {
-            return Some(alias);
-        }
-    }
-    None
+    aliases.find(text)
 }
