@@ -1,0 +1,4 @@
+pub mod Envs
+pub mod Stands
+pub mod Frames
+pub mod Steps

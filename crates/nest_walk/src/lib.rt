@@ -6,6 +6,7 @@
 #![tactic(auto)]
 
 mod frame;
+mod moves;
 mod position;
 mod walk;
 

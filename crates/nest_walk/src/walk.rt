@@ -27,12 +27,12 @@ impl<'p> Model for Walk<'p> {
 
     ghost Value = { Walked };
 
-    ghost use Rattle.nest_walk.specs.Jobs.{all_actions, jobs_at};
+    ghost use Rattle.nest_walk.specs.Jobs.{all_actions, jobs_at, stand_of};
     ghost use Rattle.nest_walk.specs.Ready.{IsReady};
 
     ghost view = { λ w. record {
         names = w.position.scope.names.now;
-        left = all_actions (jobs_at w.position);
+        left = all_actions (jobs_at (stand_of w.position));
         subscripts = w.position.subscripts.items;
     } };
 
