@@ -31,6 +31,7 @@ reframed p q frames table s r n u c f = record {
     frames = f i;
     rest = (r i).now;
     env = env_of (s i);
+    subscripts = (u i).items;
     width = vec_capacity (n i);
     uses = vec_capacity (u i);
     capacity = c i;

@@ -13,6 +13,7 @@ use Rattle.walk_program.specs.declared.statement.Statement.{Statement}
 use Rattle.walk_program.specs.Names.{name_at}
 use Rattle.walk_program.specs.Reading.{nest_of}
 use Rattle.walk_program.specs.Tree.{tree}
+use Rattle.walk_actions.specs.declared.action.Operand.{Operand}
 use Rattle.walk_actions.specs.Looked.{env_of, homes_meant, with_known, with_home}
 use Rattle.nest_walk.specs.declared.frame.Frame.{Frame}
 use Rattle.nest_walk.specs.declared.frame.Frame.TheVariants.{Rest, Known, Placed, Turns}
@@ -49,12 +50,13 @@ abbrev pub at_counts : Counts → Env → Env
 at_counts counts e = record e { fasts = counts.fasts; tags = counts.tags }
 
 -- where a walk stands: the names of the module, what is open below with the highest first, the statements in hand, what is
--- known there, and room for the operands of a map, the subscripts of a raw access and the frames
+-- known there, the subscripts of the last raw access, and room for the operands of a map, for subscripts and for frames
 pub record Stand : Type 0 where
   pub names : List Name
   pub frames : List Frame
   pub rest : List Statement
   pub env : Env
+  pub subscripts : List Operand
   pub width : ℕ
   pub uses : ℕ
   pub capacity : ℕ
@@ -65,6 +67,7 @@ stand_of p = record {
   frames = reverse p.frames.items;
   rest = p.rest.now;
   env = env_of p.scope;
+  subscripts = p.subscripts.items;
   width = vec_capacity p.numbers;
   uses = vec_capacity p.subscripts;
   capacity = vec_capacity p.frames;

@@ -1,3 +1,4 @@
 pub mod Jobs
 pub mod Ready
+pub mod Stepped
 pub mod Walked

@@ -1,5 +1,5 @@
 -- What holds wherever a walk stands: its tables are those of its names, every number fits, and all memory is there.
-use Rattle.std.specs.Prelude.{◌≡◌, ℕ, ◌+◌, ◌≤◌, ◌<◌, max, List, [], ◌∷◌, length, reverse, vec_capacity}
+use Rattle.std.specs.Prelude.{◌≡◌, ℕ, ◌+◌, ◌≤◌, ◌<◌, max, List, [], ◌∷◌, length, reverse, vec_capacity, Option, Some, None}
 use Rattle.affine_ast.specs.declared.name.Name.{Name}
 use Rattle.direct_meaning.specs.Action.{Action}
 use Rattle.direct_meaning.specs.Static.{Env}
@@ -8,7 +8,9 @@ use Rattle.walk_program.specs.declared.statement.Statement.{Statement}
 use Rattle.walk_program.specs.Counted.{CountsOf, Counted}
 use Rattle.walk_program.specs.Numbered.{Numbered}
 use Rattle.walk_program.specs.Tree.{Tree, Nothing, Loop, Branch, Does, tree}
+use Rattle.walk_actions.specs.declared.action.Action as code
 use Rattle.walk_actions.specs.Looked.{IsTable}
+use Rattle.walk_actions.specs.Meant.{meant, NamesIn}
 use Rattle.nest_walk.specs.declared.frame.Frame.{Frame}
 use Rattle.nest_walk.specs.declared.frame.Frame.TheVariants.{Rest, Known, Placed, Turns}
 use Rattle.nest_walk.specs.declared.position.Position.{Position}
@@ -90,3 +92,23 @@ pub record Acts (s t : Stand) (action : Action) : Type 0 where
 pub record Moved (p : Position) (s : Stand) : Type 0 where
   pub skips : Skips s (stand_of p)
   pub table : IsTable p.scope
+
+-- a position that came from there by a change of what is known
+pub record Opened (p : Position) (s : Stand) (e : Env) : Type 0 where
+  pub opens : Opens s (stand_of p).frames e
+  pub at : IsAt p (record s { frames = (stand_of p).frames; env = e })
+
+-- a position to which a walk came from there by an action
+pub record Acted (p : Position) (s : Stand) (action : Action) : Type 0 where
+  pub acts : Acts s (stand_of p) action
+  pub table : IsTable p.scope
+
+-- a position to which a walk came by an action by number, whose numbers are those of names
+pub record Did (action : code.Action) (p q : Position) : Type 0 where
+  pub acted : Acted q (stand_of p) (meant (stand_of p).names (stand_of q).subscripts action)
+  pub inside : NamesIn (length (stand_of p).names) (stand_of q).subscripts action
+
+-- a step of a walk: to an action, or to where as much is left to do
+abbrev pub Steps : Option code.Action → Position → Position → Type 0
+Steps None p q = Moved q (stand_of p)
+Steps (Some action) p q = Did action p q
