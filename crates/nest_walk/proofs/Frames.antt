@@ -1,7 +1,8 @@
 -- One frame more, one frame less, and tables that are written.
-use Rattle.std.proofs.Common.{◌≡◌, ℕ, suc, ◌+◌, ◌<◌, ◌≤◌, List, [], ◌∷◌, ◌++◌, length, reverse, refl, sym, ap, ◌∙◌, subst, arith, vec_capacity, vec_len}
+use Rattle.std.proofs.Common.{◌≡◌, ℕ, suc, ◌+◌, ◌<◌, ◌≤◌, List, [], ◌∷◌, ◌++◌, length, reverse, take, drop, get_or, ◌-◌, refl, sym, ap, ◌∙◌, subst, arith, vec_capacity, vec_len}
 use Rattle.std.specs.Prelude.{Option, Some, None, option_to_list, IfNone, MatchOption}
-use Rattle.std.proofs.lemmas.List.{append-nil, reverse-append, length-reverse}
+use Rattle.std.proofs.lemmas.List.{append-nil, reverse-append, length-reverse, take_all}
+use Rattle.walk_program.specs.declared.statement.Statement.{Statement}
 use Rattle.walk_actions.specs.declared.scope.Scope.{Scope}
 use Rattle.walk_actions.specs.Looked.{IsTable, env_of}
 use Rattle.nest_walk.specs.declared.frame.Frame.{Frame}
@@ -68,3 +69,23 @@ fasts_at p = refl
 pub tags_at : (p : Position) → (stand_of p).env.tags ≡ p.scope.tags
 unfolding stand_of
 tags_at p = refl
+
+-- ---- the statements in hand
+
+pub none_in_hand : (p : Position) → length p.rest.now ≡ 0 → (stand_of p).rest ≡ []
+unfolding stand_of
+none_in_hand p h = empty p.rest.now h
+  where
+  empty : (ss : List Statement) → length ss ≡ 0 → ss ≡ []
+  empty [] z = refl
+  empty (x ∷ ss) z = absurd (omega (arith, z))
+
+pub first_in_hand : (p : Position) (x : Statement) → 0 < length p.rest.now → x ≡ get_or p.rest.now 0 x → (stand_of p).rest ≡ x ∷ take (length p.rest.now - 1) (drop 1 p.rest.now)
+unfolding stand_of
+first_in_hand p x h e = split p.rest.now h e
+  where
+  split : (ss : List Statement) → 0 < length ss → x ≡ get_or ss 0 x → ss ≡ x ∷ take (length ss - 1) (drop 1 ss)
+  split [] h e = absurd (omega (arith, h))
+  split (w ∷ ss) h e =
+      let n : length (w ∷ ss) - 1 ≡ length ss = omega arith in
+      λ i. sym e i ∷ sym (ap (λ k. take k ss) n ∙ take_all (length ss) ss (omega arith)) i

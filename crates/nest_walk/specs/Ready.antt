@@ -27,6 +27,10 @@ room_of (Does line p rest) = 1 + room_of rest
 unfoldable pub room : List Statement → ℕ
 room statements = room_of (tree statements)
 
+abbrev pub other_room : Option (List Statement) → ℕ
+other_room None = 0
+other_room (Some statements) = room statements
+
 -- statements whose numbers are those of names, whose operands have room and whose counts are right
 pub record AreMade (names : List Name) (width : ℕ) (statements : List Statement) : Type 0 where
   pub numbered : Numbered (length names) width (tree statements)

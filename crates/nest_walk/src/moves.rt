@@ -14,7 +14,7 @@ ghost use Rattle.walk_actions.specs.Meant.{meant, NamesIn};
 ghost use Rattle.nest_walk.specs.declared.frame.Frame.TheVariants as on;
 ghost use Rattle.nest_walk.specs.Jobs.{stand_of, at_numbers, jobs_at, all_actions};
 ghost use Rattle.nest_walk.specs.Ready.{IsAt, IsReady, IsSound, Moved, Opened, Acted, Steps};
-ghost use Rattle.nest_walk.specs.Stepped.{IsStep};
+ghost use Rattle.nest_walk.specs.Stepped.{IsStep, Advances};
 
 use crate::frame::Frame;
 use crate::position::Position;
@@ -352,6 +352,20 @@ impl<'p> Position<'p> {
         match self.start(&statements[0], &statements[1..]) {
             Some(action) => Step::Acts(action),
             None => Step::Skips,
+        }
+    }
+
+    /// Goes to the next action. Nothing where no action is left.
+    pub fn advance(&mut self) -> Option<Action<'p>>
+        requires { IsReady self.old }
+        ensures { Advances result self.old self.new }
+    {
+        loop {
+            match self.step() {
+                Step::Acts(action) => return Some(action),
+                Step::Ends => return None,
+                Step::Skips => {}
+            }
         }
     }
 }
