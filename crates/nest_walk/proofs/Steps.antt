@@ -1,5 +1,5 @@
 -- Steps of a walk, from the moves that they are made of.
-use Rattle.std.proofs.Common.{◌≡◌, ℕ, suc, ◌+◌, ◌<◌, ◌≤◌, ℤ, pos, ◌+ℤ◌, ◌<ℤ◌, ◌≤ℤ◌, List, [], ◌∷◌, ◌++◌, length, refl, sym, ap, ◌∙◌, subst, arith, Bool, true, false, Bor}
+use Rattle.std.proofs.Common.{◌≡◌, ℕ, suc, ◌+◌, ◌<◌, ◌≤◌, ℤ, pos, ◌+ℤ◌, ◌<ℤ◌, ◌≤ℤ◌, List, [], ◌∷◌, ◌++◌, length, reverse, vec_capacity, refl, sym, ap, ◌∙◌, subst, arith, Bool, true, false, Bor}
 use Rattle.std.specs.Prelude.{Option, Some, None}
 use Rattle.std.specs.Int.{int_max}
 use Rattle.std.proofs.lemmas.Int.{ints}
@@ -10,7 +10,11 @@ use Rattle.direct_meaning.specs.Turns.{turns}
 use Rattle.affine_expr.specs.declared.map.Set.{Set}
 use Rattle.direct_meaning.specs.Static.{lower_of, upper_of, holds_at}
 use Rattle.walk_program.specs.declared.plain.Limit.{Limit}
-use Rattle.walk_program.specs.Reading.{bound_of, names_at, plain_of}
+use Rattle.walk_program.specs.Reading.{bound_of, names_at, plain_of, nest_of}
+use Rattle.walk_program.specs.Numbered.{Numbered}
+use Rattle.walk_program.specs.Counted.{Counted}
+use Rattle.valid_laws.specs.Safe.{SafeNest}
+use Rattle.std.proofs.lemmas.List.{append-nil}
 use Rattle.walk_program.specs.declared.statement.Form as form
 use Rattle.walk_program.specs.declared.statement.Form.{Form}
 use Rattle.walk_program.specs.Tree.{Tree, Loop, Branch, Does, put_form, tree}
@@ -25,14 +29,14 @@ use Rattle.affine_ast.specs.declared.name.Name.{Name}
 use Rattle.affine_ast.specs.Names.{put}
 use Rattle.direct_meaning.specs.Action.{Action, FastMemref, TagMemref}
 use Rattle.direct_meaning.specs.Static.{Env}
-use Rattle.direct_meaning.specs.Actions.{after_plain, action_of}
+use Rattle.direct_meaning.specs.Actions.{after_plain, action_of, actions}
 use Rattle.walk_program.specs.declared.plain.Plain.{Plain}
 use Rattle.walk_actions.specs.declared.action.Operand.{Operand}
-use Rattle.walk_actions.specs.Looked.{IsTable}
+use Rattle.walk_actions.specs.Looked.{IsTable, env_of}
 use Rattle.nest_walk.specs.declared.position.Position.{Position}
 use Rattle.walk_actions.specs.declared.action.Home.{Home}
 use Rattle.nest_walk.specs.Jobs.{Stand, stand_of, past, at_numbers, all_actions, jobs_of, jobs_at}
-use Rattle.nest_walk.specs.Ready.{Stacked, IsSound, Skips, Opens, Acts, Opened, Acted}
+use Rattle.nest_walk.specs.Ready.{Stacked, room, IsSound, Skips, Opens, Acts, Opened, Acted}
 use Rattle.nest_walk.proofs.Stands.{turn_more, turn_done, left_empty, back_known, back_placed, back_rest, stands_fit, loop_started, first_taken, other_taken, opens_nothing, opens_same, opens_known, opens_placed, acted}
 use Rattle.direct_meaning.proofs.Laws.{turns_more, turns_end}
 
@@ -266,3 +270,26 @@ if_else_there statements first rest set operands region other n m chosen is f wh
 
 pub plain_there : (statements : List Statement) (first : Statement) (rest : List Statement) (p : Plain) → statements ≡ first ∷ rest → first.form ≡ form.Plain p → tree statements ≡ Does first.line p (tree rest)
 plain_there statements first rest p is f = first_tree statements first rest _ is f ∙ put-Plain first.line (tree rest) p
+
+-- ---- the beginning
+
+pub begins : (p : Position) (names : List Name) (body : List Statement) (e : Env) (width : ℕ) → p.frames.items ≡ [] → p.rest.now ≡ body → p.scope.names.now ≡ names → env_of p.scope ≡ e → vec_capacity p.numbers ≡ width → vec_capacity p.subscripts ≡ width → vec_capacity p.frames ≡ room body
+    → stand_of p ≡ record { names = names; frames = []; rest = body; env = e; subscripts = p.subscripts.items; width = width; uses = width; capacity = room body }
+unfolding stand_of
+begins p names body e width f r n v w u c = λ i. record { names = n i; frames = reverse (f i); rest = r i; env = v i; subscripts = p.subscripts.items; width = w i; uses = u i; capacity = c i }
+
+pub begin_sound : (names : List Name) (body : List Statement) (e : Env) (width : ℕ) (uses : List Operand) → Numbered (length names) width (tree body) → Counted names (tree body) → SafeNest (nest_of names (tree body)) e
+    → IsSound (record { names = names; frames = []; rest = body; env = e; subscripts = uses; width = width; uses = width; capacity = room body })
+unfolding jobs_at jobs_of Stacked
+begin_sound names body e width uses numbered counted safe = record {
+  made = record { numbered = numbered; counted = counted };
+  uses = omega arith;
+  stacked = tt;
+  room = omega arith;
+  safe = (safe, tt);
+}
+
+pub begin_left : (names : List Name) (body : List Statement) (e : Env) (width : ℕ) (uses : List Operand)
+    → all_actions (jobs_at (record { names = names; frames = []; rest = body; env = e; subscripts = uses; width = width; uses = width; capacity = room body })) ≡ actions (nest_of names (tree body)) e
+unfolding jobs_at jobs_of
+begin_left names body e width uses = append-nil (actions (nest_of names (tree body)) e)

@@ -71,7 +71,9 @@ impl<'p> Walk<'p> {
         requires safe { SafeNest (nest_of program.now.names (tree program.now.body)) (start_env (arguments_of program.now.names program.now.arguments) symbols.now) }
         ensures { IfOk result (Begins program.entry.now symbols.now) }
     {
-        let room = room_needed(program.body.as_slice()).ok_or(AllocError)?;
+        let Some(room) = room_needed(program.body.as_slice()) else {
+            return Err(AllocError);
+        };
         let width = program.width as usize;
         let scope = placed(
             alloc,
