@@ -4,7 +4,7 @@ ghost use Rattle.affine_ast.specs.Sizes.{scalar_bits};
 ghost use Rattle.int_ops.specs.Cast.{CanCast, cast_value};
 ghost use Rattle.int_ops.specs.Operation.{operation};
 ghost use Rattle.int_ops.specs.Wrapped.{InRange};
-ghost use Rattle.direct_meaning.specs.Direct.{keep, read, raw_place, direct_load, direct_store, keep_result, direct_step};
+ghost use Rattle.direct_meaning.specs.Direct.{End, keep, read, raw_place, direct_load, direct_store, keep_result, direct_step};
 ghost use Rattle.walk_program.specs.Names.{name_at, AreDistinct};
 ghost use Rattle.walk_actions.specs.Looked.{homes_meant};
 ghost use Rattle.walk_actions.specs.Meant.{meant, operand_meant, place_meant, NamesIn, OperandIn};
@@ -86,6 +86,17 @@ impl<'p> Machine<'p> {
         self.registers[into as usize] = value;
     }
 
+    /// Gives a name a new value, as an action that has no fault.
+    fn set(&mut self, into: u32, value: i64) -> Result<(), FaultKind>
+        requires machine { IsMachine self.old }
+        requires inside { into < length self.old.names.now }
+        ensures takes { Takes result (End (keep (name_at self.old.names.now into) value (state_at self.old))) (state_at self.new) }
+        ensures same { Same self.old self.new }
+    {
+        self.keep(into, value);
+        Ok(())
+    }
+
     /// Gives a name the number at a place.
     fn load(&mut self, into: u32, place: Option<usize>) -> Result<(), FaultKind>
         requires machine { IsMachine self.old }
@@ -97,8 +108,7 @@ impl<'p> Machine<'p> {
         match place {
             Some(place) => {
                 let value = self.slow[place];
-                self.keep(into, value);
-                Ok(())
+                self.set(into, value)
             }
             None => Err(FaultKind::Bounds),
         }
@@ -119,27 +129,40 @@ impl<'p> Machine<'p> {
         }
     }
 
-    /// Gives a name the result of an operation.
+    /// Puts the value of an operand into a place.
+    fn store_operand(&mut self, value: Operand, place: Option<usize>) -> Result<(), FaultKind>
+        requires machine { IsMachine self.old }
+        requires value { OperandIn (length self.old.names.now) value }
+        requires place { IfSome place (λ place. place < length self.old.slow.items) }
+        ensures takes { Takes result (direct_store (read (state_at self.old).registers (operand_meant self.old.names.now value)) (slow_meant place) (state_at self.old)) (state_at self.new) }
+        ensures same { Same self.old self.new }
+    {
+        let value = self.read(value);
+        self.store(value, place)
+    }
+
+    /// Gives a name the result of an operation on two operands.
     fn operate(
         &mut self,
         into: u32,
         op: Op,
         ty: Scalar,
-        left: i64,
-        right: i64,
+        left: Operand,
+        right: Operand,
     ) -> Result<(), FaultKind>
         requires machine { IsMachine self.old }
-        requires inside { into < length self.old.names.now }
-        requires left { InRange (scalar_bits ty) left }
-        requires right { InRange (scalar_bits ty) right }
-        ensures takes { Takes result (keep_result (name_at self.old.names.now into) (operation op (scalar_bits ty) left right) (state_at self.old)) (state_at self.new) }
+        requires into { into < length self.old.names.now }
+        requires first { OperandIn (length self.old.names.now) left }
+        requires second { OperandIn (length self.old.names.now) right }
+        requires left { InRange (scalar_bits ty) (read (state_at self.old).registers (operand_meant self.old.names.now left)) }
+        requires right { InRange (scalar_bits ty) (read (state_at self.old).registers (operand_meant self.old.names.now right)) }
+        ensures takes { Takes result (keep_result (name_at self.old.names.now into) (operation op (scalar_bits ty) (read (state_at self.old).registers (operand_meant self.old.names.now left)) (read (state_at self.old).registers (operand_meant self.old.names.now right))) (state_at self.old)) (state_at self.new) }
         ensures same { Same self.old self.new }
     {
+        let left = self.read(left);
+        let right = self.read(right);
         match apply(op, ty, left, right) {
-            Some(value) => {
-                self.keep(into, value);
-                Ok(())
-            }
+            Some(value) => self.set(into, value),
             None => Err(FaultKind::Divide),
         }
     }
@@ -188,6 +211,66 @@ impl<'p> Machine<'p> {
         }
     }
 
+    /// Takes an access by values that loads.
+    fn raw_load(
+        &mut self,
+        into: u32,
+        home: Option<Home>,
+        sizes: &[u32],
+        operands: &[Operand],
+    ) -> Result<(), FaultKind>
+        requires machine { IsMachine self.old }
+        requires into { into < length self.old.names.now }
+        requires inside { All (OperandIn (length self.old.names.now)) operands.now }
+        requires home { HomeIn (length self.old.slow.items) (homes_meant home) sizes.now (map (operand_meant self.old.names.now) operands.now) }
+        ensures takes { Takes result (direct_load (name_at self.old.names.now into) (raw_place (state_at self.old).registers (homes_meant home) sizes.now (map (operand_meant self.old.names.now) operands.now)) (state_at self.old)) (state_at self.new) }
+        ensures same { Same self.old self.new }
+    {
+        let place = self.raw_place(home, sizes, operands);
+        self.load(into, place)
+    }
+
+    /// Takes an access by values that stores.
+    fn raw_store(
+        &mut self,
+        value: Operand,
+        home: Option<Home>,
+        sizes: &[u32],
+        operands: &[Operand],
+    ) -> Result<(), FaultKind>
+        requires machine { IsMachine self.old }
+        requires value { OperandIn (length self.old.names.now) value }
+        requires inside { All (OperandIn (length self.old.names.now)) operands.now }
+        requires home { HomeIn (length self.old.slow.items) (homes_meant home) sizes.now (map (operand_meant self.old.names.now) operands.now) }
+        ensures takes { Takes result (direct_store (read (state_at self.old).registers (operand_meant self.old.names.now value)) (raw_place (state_at self.old).registers (homes_meant home) sizes.now (map (operand_meant self.old.names.now) operands.now)) (state_at self.old)) (state_at self.new) }
+        ensures same { Same self.old self.new }
+    {
+        let value = self.read(value);
+        let place = self.raw_place(home, sizes, operands);
+        self.store(value, place)
+    }
+
+    /// Gives a name what a cast makes of a value.
+    fn convert(
+        &mut self,
+        into: u32,
+        kind: CastKind,
+        from: Scalar,
+        to: Scalar,
+        value: Operand,
+    ) -> Result<(), FaultKind>
+        requires machine { IsMachine self.old }
+        requires into { into < length self.old.names.now }
+        requires value { OperandIn (length self.old.names.now) value }
+        requires kind { CanCast kind (scalar_bits from) (scalar_bits to) }
+        requires inside { InRange (scalar_bits from) (read (state_at self.old).registers (operand_meant self.old.names.now value)) }
+        ensures takes { Takes result (End (keep (name_at self.old.names.now into) (cast_value kind (scalar_bits from) (scalar_bits to) (read (state_at self.old).registers (operand_meant self.old.names.now value))) (state_at self.old))) (state_at self.new) }
+        ensures same { Same self.old self.new }
+    {
+        let value = self.read(value);
+        self.set(into, cast(kind, bits(from), bits(to), value))
+    }
+
     /// Takes one action.
     ///
     /// # Errors
@@ -206,23 +289,12 @@ impl<'p> Machine<'p> {
         ensures same { Same self.old self.new }
     {
         match action {
-            Action::Sets { into, value } => {
-                self.keep(into, value);
-                Ok(())
-            }
+            Action::Sets { into, value } => self.set(into, value),
             Action::Loads { into, place } => self.load(into, slow_place(place)),
-            Action::Stores { value, place } => {
-                let value = self.read(value);
-                self.store(value, slow_place(place))
-            }
-            Action::RawLoads { into, home, sizes } => {
-                let place = self.raw_place(home, sizes, subscripts);
-                self.load(into, place)
-            }
+            Action::Stores { value, place } => self.store_operand(value, slow_place(place)),
+            Action::RawLoads { into, home, sizes } => self.raw_load(into, home, sizes, subscripts),
             Action::RawStores { value, home, sizes } => {
-                let place = self.raw_place(home, sizes, subscripts);
-                let value = self.read(value);
-                self.store(value, place)
+                self.raw_store(value, home, sizes, subscripts)
             }
             Action::Operates {
                 into,
@@ -230,32 +302,19 @@ impl<'p> Machine<'p> {
                 ty,
                 left,
                 right,
-            } => {
-                let left = self.read(left);
-                let right = self.read(right);
-                self.operate(into, op, ty, left, right)
-            }
+            } => self.operate(into, op, ty, left, right),
             Action::Converts {
                 into,
                 kind,
                 from,
                 to,
                 value,
-            } => {
-                let value = self.read(value);
-                let value = cast(kind, bits(from), bits(to), value);
-                self.keep(into, value);
-                Ok(())
-            }
+            } => self.convert(into, kind, from, to, value),
             Action::Faults(kind) => Err(kind),
-            Action::Known => Ok(()),
-            Action::Allocates { .. } => Ok(()),
-            Action::Releases { .. } => Ok(()),
-            Action::AllocatesTags { .. } => Ok(()),
-            Action::ReleasesTags { .. } => Ok(()),
-            Action::Starts(_) => Ok(()),
-            Action::Waits { .. } => Ok(()),
-            Action::Returns => Ok(()),
+            Action::Known | Action::Returns => Ok(()),
+            Action::Allocates { .. } | Action::Releases { .. } => Ok(()),
+            Action::AllocatesTags { .. } | Action::ReleasesTags { .. } => Ok(()),
+            Action::Starts(_) | Action::Waits { .. } => Ok(()),
         }
     }
 }
