@@ -2,7 +2,7 @@
 //!
 //! `verify` goes through the arguments and then the statements in text order and answers the first that breaks one of the rules V1
 //! to V12, with the lowest that it breaks; a module that breaks none is sealed as `Verified`. The answer is that of
-//! `affine_ast`, `specs/Validity`. The crate stands on `affine_rules`, which has the rules of one statement.
+//! `affine_ast`, `specs/Validity`. The crate stands on `affine_rules` and `shape_rules`, which have the rules of one statement.
 #![tactic(auto)]
 
 mod arguments;
