@@ -10,8 +10,8 @@ use Rattle.std.proofs.Math.IntN.{*ℤ_comm, zero-*ℤ, suc_ℤ-*ℤ, pred_ℤ-*�
 use Rattle.affine_expr.specs.declared.expr.Expr.{Expr, ind-Expr, map-Expr, roll-Expr, fold-roll-Expr}
 use Rattle.affine_expr.specs.declared.expr.Expr.TheOpen.{Expr-F}
 use Rattle.affine_expr.specs.Value.{floor_div, ceil_div, floor_mod, value_step, value}
+use Rattle.affine_expr.specs.Pure.{Purity, purity_at, is_positive, purity_step, purity, is_pure}
 use Rattle.affine_expr.specs.Spread.{Range, only, Within, Spread, scaled, range_of_product, range_of_floor, range_of_ceil, range_of_mod, both_fixed, one_fixed, spread_step, spread}
-use Rattle.direct_meaning.specs.Pure.{Purity, is_positive, purity_step, purity}
 use Rattle.direct_meaning.proofs.TurnLaws.{floor_is}
 
 -- products by one number
@@ -101,7 +101,7 @@ fixed_one f None v c p h = let z : None ≡ Some c = h in absurd (gone c z)
     gone c z = cc
 
 neg_held : (v : ℤ) (s : Spread) (p : Purity) → Held v s p
-    → Held (neg_ℤ v) (record { range = record { least = neg_ℤ s.range.greatest; greatest = neg_ℤ s.range.least }; fixed = one_fixed neg_ℤ s.fixed }) (record { pure = p.pure; fixed = one_fixed neg_ℤ p.fixed })
+    → Held (neg_ℤ v) (record { range = record { least = neg_ℤ s.range.greatest; greatest = neg_ℤ s.range.least }; fixed = one_fixed neg_ℤ s.fixed }) (purity_at (one_fixed neg_ℤ p.fixed) p.pure p.small)
 neg_held v s p h = (
   ap (one_fixed neg_ℤ) h.0,
   λ t.
@@ -119,7 +119,7 @@ module _ (v w : ℤ) (s t : Spread) (p q : Purity) (h : Held v s p) (k : Held w 
   same_fixed f = λ i. both_fixed f (h.0 i) (k.0 i)
 
   add_held : Held (v +ℤ w) (record { range = record { least = s.range.least +ℤ t.range.least; greatest = s.range.greatest +ℤ t.range.greatest }; fixed = both_fixed (λ x y. x +ℤ y) s.fixed t.fixed })
-      (record { pure = p.pure && q.pure; fixed = both_fixed (λ x y. x +ℤ y) p.fixed q.fixed })
+      (purity_at (both_fixed (λ x y. x +ℤ y) p.fixed q.fixed) (p.pure && q.pure) (p.small && q.small))
   add_held = (
     same_fixed (λ x y. x +ℤ y),
     λ e.
@@ -129,7 +129,7 @@ module _ (v w : ℤ) (s t : Spread) (p q : Purity) (h : Held v s p) (k : Held w 
   )
 
   sub_held : Held (v -ℤ w) (record { range = record { least = s.range.least -ℤ t.range.greatest; greatest = s.range.greatest -ℤ t.range.least }; fixed = both_fixed (λ x y. x -ℤ y) s.fixed t.fixed })
-      (record { pure = p.pure && q.pure; fixed = both_fixed (λ x y. x -ℤ y) p.fixed q.fixed })
+      (purity_at (both_fixed (λ x y. x -ℤ y) p.fixed q.fixed) (p.pure && q.pure) (p.small && q.small))
   sub_held = (
     same_fixed (λ x y. x -ℤ y),
     λ e.
@@ -146,7 +146,7 @@ module _ (v w : ℤ) (s t : Spread) (p q : Purity) (h : Held v s p) (k : Held w 
   product_in None None x y some l r = let z : false ≡ true = some in absurd (cc)
 
   mul_held : Held (v *ℤ w) (record { range = range_of_product s t s.fixed t.fixed; fixed = both_fixed (λ x y. x *ℤ y) s.fixed t.fixed })
-      (record { pure = (p.pure && q.pure) && (is_some p.fixed || is_some q.fixed); fixed = both_fixed (λ x y. x *ℤ y) p.fixed q.fixed })
+      (purity_at (both_fixed (λ x y. x *ℤ y) p.fixed q.fixed) ((p.pure && q.pure) && (is_some p.fixed || is_some q.fixed)) (p.small && q.small))
   mul_held = (
     same_fixed (λ x y. x *ℤ y),
     λ e.
@@ -164,7 +164,7 @@ module _ (v w : ℤ) (s t : Spread) (p q : Purity) (h : Held v s p) (k : Held w 
 
   div_held : (f : ℤ → ℤ → ℤ) (range : Range → Option ℤ → Range)
       → ((n : ℕ) → 1 ≤ n → Within v s.range → Within (f v (pos n)) (range s.range (Some (pos n))))
-      → Held (f v w) (record { range = range s.range t.fixed; fixed = both_fixed f s.fixed t.fixed }) (record { pure = (p.pure && q.pure) && is_positive q.fixed; fixed = both_fixed f p.fixed q.fixed })
+      → Held (f v w) (record { range = range s.range t.fixed; fixed = both_fixed f s.fixed t.fixed }) (purity_at (both_fixed f p.fixed q.fixed) ((p.pure && q.pure) && is_positive q.fixed) (p.small && q.small))
   div_held f range law = (
     same_fixed f,
     λ e.
@@ -207,11 +207,11 @@ module _ (ds ss : List ℤ) (rds rss : List Range) (dims : InRanges ds rds) (sym
   P e = Held (value ds ss e) (spread rds rss e) (purity e)
 
   layer : (x : Expr-F Expr) → Held (value_step ds ss (map-Expr Expr ℤ (value ds ss) x)) (spread_step rds rss (map-Expr Expr Spread (spread rds rss) x)) (purity_step (map-Expr Expr Purity purity x)) → P (roll-Expr x)
-  unfolding value spread purity
+  unfolding value spread
   layer x h =
       subst (λ t. t) (λ i. Held (sym (fold-roll-Expr ℤ (value_step ds ss) x) i) (sym (fold-roll-Expr Spread (spread_step rds rss) x) i) (sym (fold-roll-Expr Purity purity_step x) i)) h
 
-  unnumbered : (n : ℕ) (r : Range) (v : ℤ) → Within v r → Held v (record { range = r; fixed = None }) (record { pure = true; fixed = None })
+  unnumbered : (n : ℕ) (r : Range) (v : ℤ) → Within v r → Held v (record { range = r; fixed = None }) (purity_at None true true)
   unnumbered n r v h = (refl, λ e. (h, λ c z. absurd (gone c z)))
     where
       gone : (c : ℤ) → None ≡ Some c → ⊥
@@ -227,17 +227,18 @@ module _ (ds ss : List ℤ) (rds rss : List Range) (dims : InRanges ds rds) (sym
       at (Expr-F.Dim k) = layer (Expr-F.Dim k) (unnumbered k _ _ (leaf_in ds rds k dims))
       at (Expr-F.Sym k) = layer (Expr-F.Sym k) (unnumbered k _ _ (leaf_in ss rss k syms))
       at (Expr-F.Const z) = layer (Expr-F.Const z) (refl, λ e. (record { low = omega (arith, ints); high = omega (arith, ints) }, λ c e. one_number z c e))
-      at (Expr-F.Neg a) = layer (Expr-F.Neg a.0) (neg_held _ _ _ a.1)
-      at (Expr-F.Add a b) = layer (Expr-F.Add a.0 b.0) (add_held _ _ _ _ _ _ a.1 b.1)
-      at (Expr-F.Sub a b) = layer (Expr-F.Sub a.0 b.0) (sub_held _ _ _ _ _ _ a.1 b.1)
-      at (Expr-F.Mul a b) = layer (Expr-F.Mul a.0 b.0) (mul_held _ _ _ _ _ _ a.1 b.1)
-      at (Expr-F.FloorDiv a b) = layer (Expr-F.FloorDiv a.0 b.0) (div_held _ _ _ _ _ _ a.1 b.1 floor_div range_of_floor (floor_law _ _))
-      at (Expr-F.CeilDiv a b) = layer (Expr-F.CeilDiv a.0 b.0) (div_held _ _ _ _ _ _ a.1 b.1 ceil_div range_of_ceil (ceil_law _ _))
-      at (Expr-F.Mod a b) = layer (Expr-F.Mod a.0 b.0) (div_held _ _ _ _ _ _ a.1 b.1 floor_mod range_of_mod (mod_law _ _))
+      at (Expr-F.Neg a) = layer (Expr-F.Neg a.0) (neg_held _ _ (purity a.0) a.1)
+      at (Expr-F.Add a b) = layer (Expr-F.Add a.0 b.0) (add_held _ _ _ _ (purity a.0) (purity b.0) a.1 b.1)
+      at (Expr-F.Sub a b) = layer (Expr-F.Sub a.0 b.0) (sub_held _ _ _ _ (purity a.0) (purity b.0) a.1 b.1)
+      at (Expr-F.Mul a b) = layer (Expr-F.Mul a.0 b.0) (mul_held _ _ _ _ (purity a.0) (purity b.0) a.1 b.1)
+      at (Expr-F.FloorDiv a b) = layer (Expr-F.FloorDiv a.0 b.0) (div_held _ _ _ _ (purity a.0) (purity b.0) a.1 b.1 floor_div range_of_floor (floor_law _ _))
+      at (Expr-F.CeilDiv a b) = layer (Expr-F.CeilDiv a.0 b.0) (div_held _ _ _ _ (purity a.0) (purity b.0) a.1 b.1 ceil_div range_of_ceil (ceil_law _ _))
+      at (Expr-F.Mod a b) = layer (Expr-F.Mod a.0 b.0) (div_held _ _ _ _ (purity a.0) (purity b.0) a.1 b.1 floor_mod range_of_mod (mod_law _ _))
 
   held : (e : Expr) → P e
   held = ind-Expr P step
 
   -- the value of an affine expression lies in its interval
-  pub value_in : (e : Expr) → (purity e).pure ≡ true → Within (value ds ss e) (spread rds rss e).range
+  pub value_in : (e : Expr) → is_pure e ≡ true → Within (value ds ss e) (spread rds rss e).range
+  unfolding is_pure
   value_in e h = ((held e).1 h).0

@@ -7,6 +7,7 @@ use Rattle.std.proofs.lemmas.Int.{ints}
 use Rattle.std.proofs.lemmas.Bool.{and_parts}
 use Rattle.affine_expr.specs.declared.expr.Expr.{Expr}
 use Rattle.affine_expr.specs.Value.{value}
+use Rattle.affine_expr.specs.Pure.{is_pure}
 use Rattle.affine_expr.specs.Spread.{Range, only, Within, range_of}
 use Rattle.affine_ast.specs.declared.image.Cells.{Cells}
 use Rattle.affine_ast.specs.declared.image.Image.{Image}
@@ -25,13 +26,14 @@ use Rattle.affine_ast.specs.declared.types.Scalar.TheVariants as scalar
 use Rattle.affine_ast.specs.declared.types.MemrefType.{MemrefType}
 use Rattle.affine_ast.specs.Names.{same_name, put}
 use Rattle.affine_ast.proofs.Names.{put-same, put-other}
+use Rattle.affine_ast.specs.Rules.{access_pure, bound_pure}
 use Rattle.affine_ast.specs.Nest.{Plain, Nest, Nothing, Loop, Branch, Does, Value, Load, Store, RawLoad, RawStore, Constant, Binary, Cast, Alloc, Dealloc, Start, Wait, Return, nest}
 use Rattle.direct_meaning.specs.Static.{Env, knows, number, numbers, results_of, least, greatest, picked, lower_of, upper_of}
 use Rattle.direct_meaning.specs.Actions.{after_plain, behind, is_fast, after_alloc, after_constant}
 use Rattle.direct_meaning.specs.Memory.{FitsArg, FitsArgs, Placed, place_kind, place_arg, empty_env, start_env, module_actions, range_or, Fits}
 use Rattle.direct_meaning.specs.Work.{Ranges, ranges_at, over_all, picked_range, first_turn, last_end, turn_range, ranges_after, ranges_after_constant, arg_ranges, start_ranges, work}
 use Rattle.direct_meaning.specs.Bounded.{TurnsBounded}
-use Rattle.direct_meaning.specs.Pure.{is_affine, AffineAccess, AffineBound, AffinePlain, AffineNest}
+use Rattle.direct_meaning.specs.Pure.{AffinePlain, AffineNest}
 use Rattle.direct_meaning.specs.WorkLaw.{ActionsWithinWork}
 use Rattle.direct_meaning.proofs.RangeLaws.{InRanges, leaf_in, value_in}
 use Rattle.direct_meaning.proofs.TurnLaws.{turns_bounded}
@@ -58,14 +60,14 @@ drop_in (suc k) (z ∷ zs) (r ∷ rs) h = drop_in k zs rs h.1
 drop_in (suc k) [] (r ∷ rs) h = absurd h
 drop_in (suc k) (z ∷ zs) [] h = absurd h
 
-values_in : (ds ss : List ℤ) (rds rss : List Range) (es : List Expr) → InRanges ds rds → InRanges ss rss → list_all is_affine es ≡ true → InRanges (map (value ds ss) es) (map (range_of rds rss) es)
+values_in : (ds ss : List ℤ) (rds rss : List Range) (es : List Expr) → InRanges ds rds → InRanges ss rss → list_all is_pure es ≡ true → InRanges (map (value ds ss) es) (map (range_of rds rss) es)
 values_in ds ss rds rss [] p q h = tt
 values_in ds ss rds rss (e ∷ es) p q h =
-    let two = and_parts (is_affine e) (list_all is_affine es) h in
+    let two = and_parts (is_pure e) (list_all is_pure es) h in
     (value_in ds ss rds rss p q e two.0, values_in ds ss rds rss es p q two.1)
 
-results_in : (e : Env) (rho : Ranges) (at : Access) → RangesHold e rho → AffineAccess at → InRanges (results_of e at) (ranges_at rho at)
-unfolding results_of
+results_in : (e : Env) (rho : Ranges) (at : Access) → RangesHold e rho → access_pure at ≡ true → InRanges (results_of e at) (ranges_at rho at)
+unfolding results_of access_pure
 results_in e rho at h a =
     let all = numbers_in e rho at.operands h in
     values_in _ _ _ _ at.map.results (take_in at.map.dims _ _ all) (drop_in at.map.dims _ _ all) a
@@ -111,7 +113,7 @@ least_is [] = refl
 least_is (z ∷ zs) = refl
 
 -- bounds of loops
-pub lower_in : (e : Env) (rho : Ranges) (b : Bound) → RangesHold e rho → AffineBound b → first_turn rho b ≤ℤ lower_of e b
+pub lower_in : (e : Env) (rho : Ranges) (b : Bound) → RangesHold e rho → bound_pure b ≡ true → first_turn rho b ≤ℤ lower_of e b
 unfolding first_turn lower_of
 lower_in e rho (bound.Int z) h a = omega (arith, ints)
 lower_in e rho (bound.Value n) h a = (h n).low
@@ -119,7 +121,7 @@ lower_in e rho (bound.Map at) h a =
     subst (λ z. over_all int_max (map (λ (r : Range). r.least) (ranges_at rho at)) ≤ℤ z) (sym (greatest_is (results_of e at)))
     (all_low int_max max_mono (results_of e at) (ranges_at rho at) (results_in e rho at h a))
 
-pub upper_in : (e : Env) (rho : Ranges) (b : Bound) → RangesHold e rho → AffineBound b → upper_of e b ≤ℤ last_end rho b
+pub upper_in : (e : Env) (rho : Ranges) (b : Bound) → RangesHold e rho → bound_pure b ≡ true → upper_of e b ≤ℤ last_end rho b
 unfolding last_end upper_of
 upper_in e rho (bound.Int z) h a = omega (arith, ints)
 upper_in e rho (bound.Value n) h a = (h n).high

@@ -9,6 +9,7 @@ use Rattle.affine_ast.specs.Names.{same_name, put}
 use Rattle.affine_ast.proofs.Nests.{nests}
 use Rattle.int_ops.specs.Wrapped.{wrapped, unsigned}
 use Rattle.int_ops.specs.Operation.{operation}
+use Rattle.bus_model.specs.Places.{slow_place}
 use Rattle.direct_meaning.specs.Turns.{turns}
 use Rattle.direct_meaning.specs.Static.{results_of, lower_of, upper_of, holds_at, place_of, tag_of}
 use Rattle.direct_meaning.specs.Actions.{action_of, after_plain, actions}
@@ -58,11 +59,11 @@ unfolding plain module_actions start_env actions action_of after_plain turns low
 several_results = simp (nests, values) refl
 
 pub waited : Waited
-unfolding prompt prompt_step acts put_half put_halves started module_actions start_env actions action_of after_plain turns lower_of upper_of holds_at place_of tag_of results_of holds floor_div ceil_div floor_mod folded direct_step read operation wrapped unsigned put same_name
+unfolding prompt prompt_step acts put_half put_halves started slow_place module_actions start_env actions action_of after_plain turns lower_of upper_of holds_at place_of tag_of results_of holds floor_div ceil_div floor_mod folded direct_step read operation wrapped unsigned put same_name
 waited = (simp (nests, values) refl, simp (nests, values) refl, simp (nests, values) refl)
 
 pub faulted : Faulted
-unfolding prompt prompt_step acts put_half put_halves started module_actions start_env actions action_of after_plain turns lower_of upper_of holds_at place_of tag_of results_of holds floor_div ceil_div floor_mod folded direct_step read operation wrapped unsigned put same_name
+unfolding prompt prompt_step acts put_half put_halves started slow_place module_actions start_env actions action_of after_plain turns lower_of upper_of holds_at place_of tag_of results_of holds floor_div ceil_div floor_mod folded direct_step read operation wrapped unsigned put same_name
 faulted = (
   simp (nests, values) refl,
   simp (nests, values) refl,
@@ -74,7 +75,7 @@ faulted = (
 )
 
 pub strided : Strided
-unfolding prompt prompt_step acts put_half put_halves started module_actions start_env actions action_of after_plain turns lower_of upper_of holds_at place_of tag_of results_of holds floor_div ceil_div floor_mod folded direct_step read operation wrapped unsigned put same_name
+unfolding prompt prompt_step acts put_half put_halves started slow_place module_actions start_env actions action_of after_plain turns lower_of upper_of holds_at place_of tag_of results_of holds floor_div ceil_div floor_mod folded direct_step read operation wrapped unsigned put same_name
 strided = simp (nests, values) refl
 
 pub works : Works

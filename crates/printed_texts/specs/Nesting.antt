@@ -1,5 +1,5 @@
 -- How deep the printed spelling of an expression nests.
-use Rattle.std.specs.Prelude.{◌≡◌, ℕ, suc, max, ℤ, pos, negsuc, nat_le, Bool, true, false, ◌&&◌, ◌||◌, not, List, [], ◌∷◌}
+use Rattle.std.specs.Prelude.{◌≡◌, ℕ, pos, nat_le, Bool, true, false, ◌&&◌, ◌||◌, not, List, [], ◌∷◌}
 use Rattle.std.specs.Ordering.{int_eq}
 use Rattle.affine_expr.specs.declared.expr.Expr.{Expr, fold-Expr}
 use Rattle.affine_expr.specs.declared.expr.Expr.TheOpen.{Expr-F}
@@ -8,50 +8,11 @@ use Rattle.affine_ast.specs.declared.types.Access.{Access}
 use Rattle.affine_ast.specs.declared.types.Bound.{Bound}
 use Rattle.affine_ast.specs.declared.types.Bound.TheVariants as bound
 use Rattle.affine_ast.specs.declared.module.Module.{Module}
+unfoldable pub use Rattle.affine_ast.specs.PlainLimits.{depths}
+pub use Rattle.affine_ast.specs.PlainLimits.{Depths, sum_depths, product_depths, unary_depths, literal_depths, depths_step}
 use Rattle.affine_ast.specs.Nest.{Plain, Value, Load, Store, RawLoad, RawStore, Constant, Binary, Cast, Alloc, Dealloc, Start, Wait, Return, Nest, Nothing, Loop, Branch, Does, nest}
 
--- the parentheses and negations inside one another in the spelling of an expression, by where it stands:
--- alone or as the left side of a sum, where a product may stand, where only what binds more strongly
--- may, and behind a `-`
-pub record Depths : Type 0 where
-  pub sum : ℕ
-  pub product : ℕ
-  pub unary : ℕ
-  pub negated : ℕ
-
--- a sum or a difference
-abbrev pub sum_depths : ℕ → Depths
-sum_depths n = record { sum = n; product = suc n; unary = suc n; negated = suc n }
-
--- a product or a division
-abbrev pub product_depths : ℕ → Depths
-product_depths n = record { sum = n; product = n; unary = suc n; negated = suc n }
-
--- a leaf or a negation
-abbrev pub unary_depths : ℕ → Depths
-unary_depths n = record { sum = n; product = n; unary = n; negated = n }
-
--- behind a `-` an integer that isn't negative stands in parentheses
-abbrev pub literal_depths : ℤ → Depths
-literal_depths (pos n) = record { sum = 0; product = 0; unary = 0; negated = 1 }
-literal_depths (negsuc n) = unary_depths 0
-
-abbrev pub depths_step : Expr-F Depths → Depths
-depths_step (Expr-F.Dim n) = unary_depths 0
-depths_step (Expr-F.Sym n) = unary_depths 0
-depths_step (Expr-F.Const z) = literal_depths z
-depths_step (Expr-F.Neg a) = unary_depths (suc a.negated)
-depths_step (Expr-F.Add a b) = sum_depths (max a.sum b.product)
-depths_step (Expr-F.Sub a b) = sum_depths (max a.sum b.product)
-depths_step (Expr-F.Mul a b) = product_depths (max a.product b.unary)
-depths_step (Expr-F.FloorDiv a b) = product_depths (max a.product b.unary)
-depths_step (Expr-F.CeilDiv a b) = product_depths (max a.product b.unary)
-depths_step (Expr-F.Mod a b) = product_depths (max a.product b.unary)
-
-unfoldable pub depths : Expr → Depths
-depths = fold-Expr Depths depths_step
-
--- the parentheses and negations inside one another in the printed spelling of an expression
+-- the parentheses and negations inside one another in the printed spelling of an expression, where it stands alone
 unfoldable pub printed_nesting : Expr → ℕ
 printed_nesting e = (depths e).sum
 

@@ -1,11 +1,11 @@
 -- The state of a module with transfers, each of which completes at its start.
-use Rattle.std.specs.Prelude.{ℕ, ◌+◌, ◌*◌, ◌-◌, max, ℤ, pos, Bool, false, ◌&&◌, List, [], ◌∷◌, ◌++◌, replicate, Option, Some, None, nat_eq, nat_lt, nat_le, if◌then◌else◌, slice_index_or, slice_set, fold}
+use Rattle.std.specs.Prelude.{ℕ, ◌+◌, ◌*◌, ◌-◌, max, ℤ, Bool, false, ◌&&◌, List, [], ◌∷◌, ◌++◌, replicate, Option, Some, None, nat_eq, nat_lt, nat_le, if◌then◌else◌}
 use Rattle.std.specs.List.{list_any}
 use Rattle.affine_ast.specs.declared.types.Element.{Element}
 use Rattle.int_ops.specs.Wrapped.{wrapped}
 use Rattle.bus_model.specs.declared.transfer.Transfer.{Transfer}
-use Rattle.direct_meaning.specs.Turns.{below}
-use Rattle.direct_meaning.specs.Transfers.{slow_place, meets, overlap}
+use Rattle.bus_model.specs.Copies.{moved_in, moved_out}
+use Rattle.direct_meaning.specs.Transfers.{meets, overlap}
 use Rattle.direct_meaning.specs.Static.{product, element_bits, element_bytes}
 use Rattle.direct_meaning.specs.Actions.{half_cells}
 use Rattle.direct_meaning.specs.Direct.{State}
@@ -79,14 +79,6 @@ store_races outstanding place = list_any (λ t. meets t place) outstanding
 -- an outgoing start races with any transfer that shares a slow place with it, an incoming one with an outgoing one
 abbrev pub start_races : List Transfer → Transfer → Bool
 start_races outstanding t = list_any (λ o. (if t.incoming then (if o.incoming then false else overlap o t) else overlap o t)) outstanding
-
--- all elements from slow places into the half's cells
-abbrev pub moved_in : Transfer → List ℤ → List ℤ → List ℤ
-moved_in t slow cells = fold (λ cells e. slice_set cells (t.offset + e) (slice_index_or slow (slow_place t e) (pos 0))) cells (below t.count)
-
--- all elements from the half's cells to slow places
-abbrev pub moved_out : Transfer → List ℤ → List ℤ → List ℤ
-moved_out t cells slow = fold (λ slow e. slice_set slow (slow_place t e) (slice_index_or cells (t.offset + e) (pos 0))) slow (below t.count)
 
 abbrev pub copied_in : Transfer → Device → Device
 copied_in t y = record y { halves = put_half y.halves t.fast t.half (moved_in t y.state.slow (y.halves t.fast t.half)) }

@@ -1,4 +1,3 @@
-pub mod Purities
 pub mod Passing
 pub mod Reach
 pub mod Evaluated

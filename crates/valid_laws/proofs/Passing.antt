@@ -7,15 +7,12 @@ use Rattle.affine_expr.specs.declared.map.Set.{Set}
 use Rattle.affine_ast.specs.declared.module.Arg.{Arg}
 use Rattle.affine_ast.specs.declared.module.Module.{Module}
 use Rattle.affine_ast.specs.declared.name.Name.{Name}
-use Rattle.affine_ast.specs.declared.types.Access.{Access}
 use Rattle.affine_ast.specs.declared.types.Bound.{Bound}
-use Rattle.affine_ast.specs.declared.types.Bound.TheVariants as bound
 use Rattle.affine_ast.specs.Nest.{Plain, Nest, Nothing, Loop, Branch, Does, Value, Load, Store, RawLoad, RawStore, Constant, Binary, Cast, Alloc, Dealloc, Start, Wait, Return, nest}
-use Rattle.affine_ast.specs.Rules.{access_pure, bound_pure, step_positive, maps_pure, uses_in_scope, defines_new, uses_stand, types_agree, constant_in_range, counts_fit, maps_bounded, spaces_agree, text_within, bound_in, is_new, bound_stands, bound_fits, bound_bounded, are_in, operands_stand, set_fits, set_pure, set_bounded}
+use Rattle.affine_ast.specs.Rules.{bound_pure, step_positive, maps_pure, uses_in_scope, defines_new, uses_stand, types_agree, constant_in_range, counts_fit, maps_bounded, spaces_agree, text_within, bound_in, is_new, bound_stands, bound_fits, bound_bounded, are_in, operands_stand, set_fits, set_pure, set_bounded}
 use Rattle.affine_ast.specs.Scope.{Totals, Around, counted, in_loop, in_condition, with_totals, behind_plain}
 use Rattle.affine_ast.specs.Validity.{Told, Broken, Passed, judged, then_told, rule, elements_within, told, told_arguments, rule_of_plain, rule_of_loop, rule_of_condition, rule_of_argument, behind_argument, told_module, outside, broken_of, first_broken, IsValid}
-use Rattle.direct_meaning.specs.Pure.{AffineAccess, AffineBound, AffinePlain, AffineNest}
-use Rattle.valid_laws.proofs.Purities.{affine_of_pure}
+use Rattle.direct_meaning.specs.Pure.{AffinePlain, AffineNest}
 
 -- ---- inversions
 
@@ -37,19 +34,10 @@ pub then_passed : (first : Told) (more : Totals → Told) (t : Totals) → then_
 then_passed (Broken line number) more t h = absurd (broken_passed line number t h)
 then_passed (Passed s) more t h = (s, refl, h)
 
--- ---- bounds and values
-
-access_affine : (at : Access) → access_pure at ≡ true → AffineAccess at
-unfolding access_pure
-access_affine at h = affine_of_pure at.map.results h
-
-bound_affine : (b : Bound) → bound_pure b ≡ true → AffineBound b
-bound_affine (bound.Int z) h = tt
-bound_affine (bound.Value n) h = tt
-bound_affine (bound.Map at) h = access_affine at h
+-- ---- values
 
 plain_affine : (p : Plain) → maps_pure p ≡ true → AffinePlain p
-plain_affine (Value r pick at) h = access_affine at h
+plain_affine (Value r pick at) h = h
 plain_affine (Load r m at ty) h = tt
 plain_affine (Store x m at ty) h = tt
 plain_affine (RawLoad r m at ty) h = tt
@@ -152,7 +140,7 @@ affine_of_told (Loop line v l u s body rest) a t h =
     let j = judged_passed line (rule_of_loop (counted a) v l u s) _ t h in
     let p = then_passed (told body (in_loop v l u (counted a))) (λ t. told rest (with_totals t a)) t j.1 in
     let pure = loop_pure l u s (loop_holds (counted a) v l u s j.0).pure in
-    (bound_affine l pure.0, bound_affine u pure.1, positive s pure.2, affine_of_told body (in_loop v l u (counted a)) p.0 p.1, affine_of_told rest (with_totals p.0 a) t p.2)
+    (pure.0, pure.1, positive s pure.2, affine_of_told body (in_loop v l u (counted a)) p.0 p.1, affine_of_told rest (with_totals p.0 a) t p.2)
 affine_of_told (Branch line set names first has other rest) a t h =
     let j = judged_passed line (rule_of_condition (counted a) set names) _ t h in
     let p = then_passed (told first (in_condition (counted a))) (λ t. then_told (told other (in_condition (with_totals t a))) (λ u. told rest (with_totals u a))) t j.1 in
