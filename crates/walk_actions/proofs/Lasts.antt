@@ -1,14 +1,13 @@
 -- The last element of a transfer lies behind all others.
 use Rattle.std.proofs.Common.{◌≡◌, ℕ, zero, suc, ◌+◌, ◌*◌, ◌/◌, ◌%◌, ◌-◌, ◌<◌, ◌≤◌, ◌^◌, ℤ, pos, List, [], ◌∷◌, length, drop, map, refl, sym, ap, ◌∙◌, subst, arith, Bool, true, false, max, mul-le-mul_right, mul-le-mul_left, suc-mul, mod-lt, div-add-mod'}
 use Rattle.std.specs.Prelude.{Option, Some, None, nat_lt, ◌&&◌}
-use Rattle.std.specs.List.{list_all}
+use Rattle.std.specs.List.{list_all, range_with_len}
 use Rattle.std.proofs.lemmas.Bool.{ltb-true, lt-ltb, le-ltb}
 use native.Mathlib.Decide.{dec_le}
 use Rattle.bus_model.specs.declared.transfer.Transfer.{Transfer}
 use Rattle.affine_ast.specs.Sizes.{product}
 use Rattle.direct_meaning.specs.Actions.{half_cells}
 use Rattle.walk_actions.proofs.Elements.{half_few}
-use Rattle.direct_meaning.specs.Turns.{from_on, below}
 use Rattle.direct_meaning.specs.Transfers.{slow_place, slow_places, ends_by}
 use Rattle.walk_actions.specs.declared.transfers.Chunks.{Chunks}
 use Rattle.walk_actions.specs.Transfers.{layout_meant, transfer_at, AreChunks}
@@ -49,18 +48,19 @@ both_tests : (x y end : ℕ) (t : Bool) → x ≤ y → nat_lt y end ≡ t → (
 both_tests x y end true h e = let k : nat_lt x end ≡ true = lt-ltb x end (omega (arith, h, ltb-true y end e)) in rw (k, e) refl
 both_tests x y end false h e = rw e (and_false (nat_lt x end))
 
-below_last : (f : ℕ → ℕ) (end : ℕ) → ((a b : ℕ) → a ≤ b → f a ≤ f b) → (k n : ℕ) → list_all (λ place. nat_lt place end) (map f (from_on k (suc n))) ≡ nat_lt (f (k + n)) end
+below_last : (f : ℕ → ℕ) (end : ℕ) → ((a b : ℕ) → a ≤ b → f a ≤ f b) → (k n : ℕ) → list_all (λ place. nat_lt place end) (map f (range_with_len k (suc n))) ≡ nat_lt (f (k + n)) end
 below_last f end up k zero = and_true (nat_lt (f k) end) ∙ (let e : k ≡ k + 0 = omega arith in ap (λ i. nat_lt (f i) end) e)
 below_last f end up k (suc n) =
-    let e : suc k + n ≡ k + suc n = omega arith in
-    ap (λ t. nat_lt (f k) end && t) (below_last f end up (suc k) n ∙ ap (λ i. nat_lt (f i) end) e)
+    let e : (k + 1) + n ≡ k + suc n = omega arith in
+    ap (λ t. nat_lt (f k) end && t) (below_last f end up (k + 1) n ∙ ap (λ i. nat_lt (f i) end) e)
     ∙ both_tests (f k) (f (k + suc n)) end (nat_lt (f (k + suc n)) end) (up k (k + suc n) (omega arith)) refl
 
 -- all elements lie below a place where the last one does
 pub ends_by_last : (t : Transfer) (end : ℕ) → 1 ≤ t.count → 1 ≤ t.chunk → t.chunk ≤ t.stride → ends_by t end ≡ nat_lt (slow_place t (t.count - 1)) end
+unfolding slow_place
 ends_by_last t end some least apart =
     let n : t.count ≡ suc (t.count - 1) = omega (arith, some) in
-    ap (λ k. list_all (λ place. nat_lt place end) (map (slow_place t) (from_on 0 k))) n
+    ap (λ k. list_all (λ place. nat_lt place end) (map (slow_place t) (range_with_len 0 k))) n
     ∙ below_last (slow_place t) end (λ a b h. omega (arith, ordered a b t.chunk t.stride least apart h)) 0 (t.count - 1)
     ∙ ap (λ k. nat_lt (slow_place t k) end) (omega arith)
 
@@ -89,11 +89,13 @@ count_fits c base end h l = omega (arith, place_above (c.count - 1) c.chunk c.st
 
 pub starts_well : (c : Chunks) (incoming : Bool) (tag memref base fast half offset end : ℕ) → AreChunks c → base + (c.count - 1) / c.chunk * c.stride + (c.count - 1) % c.chunk < end
     → ends_by (transfer_at incoming tag memref base c fast half offset) end ≡ true
+unfolding slow_place
 starts_well c incoming tag memref base fast half offset end h l =
     ends_by_last (transfer_at incoming tag memref base c fast half offset) end h.some h.least h.apart ∙ lt-ltb _ end l
 
 pub starts_outside : (c : Chunks) (incoming : Bool) (tag memref base fast half offset end : ℕ) → AreChunks c → end ≤ base + (c.count - 1) / c.chunk * c.stride + (c.count - 1) % c.chunk
     → ends_by (transfer_at incoming tag memref base c fast half offset) end ≡ false
+unfolding slow_place
 starts_outside c incoming tag memref base fast half offset end h l =
     ends_by_last (transfer_at incoming tag memref base c fast half offset) end h.some h.least h.apart ∙ le-ltb _ end l
 
