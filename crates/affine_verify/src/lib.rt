@@ -16,3 +16,4 @@ mod walk;
 
 pub use fault::VerifyFault;
 pub use sealing::verify;
+pub use values::{greatest_least, intervals_at, least_greatest, picked_of, turns};

@@ -32,7 +32,8 @@ fn interval_at(expr: &Expr, dims: &[Interval], syms: &[Interval]) -> Interval
     }
 }
 
-fn intervals_at(
+/// The intervals of the results of a map, each of which has one where its operands lie in these.
+pub fn intervals_at(
     alloc: Global,
     exprs: &[Expr],
     dims: &[Interval],
@@ -67,7 +68,8 @@ pub(crate) fn results_of<'a>(
     Ok(found)
 }
 
-fn greatest_least(intervals: &[Interval]) -> i64
+/// The greatest of the least values; 0 where there are none.
+pub fn greatest_least(intervals: &[Interval]) -> i64
     ensures { result ≡ over_all int_max (map (λ (r : Range). r.least) (ranges intervals.now)) }
 {
     match intervals {
@@ -112,7 +114,8 @@ fn greatest_greatest(intervals: &[Interval]) -> i64
     }
 }
 
-fn least_greatest(intervals: &[Interval]) -> i64
+/// The least of the greatest values; 0 where there are none.
+pub fn least_greatest(intervals: &[Interval]) -> i64
     ensures { result ≡ over_all int_min (map (λ (r : Range). r.greatest) (ranges intervals.now)) }
 {
     match intervals {
@@ -161,7 +164,8 @@ fn last_end<'a>(alloc: Global, names: &Names<'a>, bound: &'a Bound) -> Result<i6
     }
 }
 
-fn turns(least: i64, end: i64) -> Interval
+/// The interval of a loop's variable that begins at the least turn and ends before `end`.
+pub fn turns(least: i64, end: i64) -> Interval
     ensures { range_at result ≡ turn_range least end }
 {
     if least < end {
@@ -195,7 +199,8 @@ pub(crate) fn turn_interval<'a>(
     Ok(turns(least, end))
 }
 
-fn picked_of(pick: Pick, intervals: &[Interval]) -> Interval
+/// The interval of the result that `affine.apply`, `min` or `max` picks of results in these.
+pub fn picked_of(pick: Pick, intervals: &[Interval]) -> Interval
     ensures { range_at result ≡ picked_range pick (ranges intervals.now) }
 {
     match pick {

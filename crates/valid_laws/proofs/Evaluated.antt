@@ -163,7 +163,7 @@ module _ (e : Env) (rho : Ranges) (holds : RangesHold e rho) where
   plain_evaluable (Wait t at n ty) f p b = access_evaluable at (subscripts_map at ty f) p b
   plain_evaluable Return f p b = tt
 
-turn_in : (a b low high t : ℤ) → a ≤ℤ low → high ≤ℤ b → low ≤ℤ t → t <ℤ high → Within t (turn_range a b)
+pub turn_in : (a b low high t : ℤ) → a ≤ℤ low → high ≤ℤ b → low ≤ℤ t → t <ℤ high → Within t (turn_range a b)
 turn_in a b low high t p q from to = record { low = omega (arith, ints, p, from); high = grind (arith, ints, p, q, from, to) }
 
 -- wherever the walk of the statements comes

@@ -2,3 +2,9 @@ pub mod Purities
 pub mod Passing
 pub mod Reach
 pub mod Evaluated
+pub mod Small
+pub mod Scoped
+pub mod Counted
+pub mod SafePlaces
+pub mod SafeHolds
+pub mod SafeStart

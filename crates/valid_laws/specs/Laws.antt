@@ -6,6 +6,7 @@ use Rattle.direct_meaning.specs.Pure.{AffineNest}
 use Rattle.direct_meaning.specs.Work.{start_ranges}
 use Rattle.valid_laws.specs.Bounded.{BoundedNest}
 use Rattle.valid_laws.specs.Evaluable.{EvaluableNest}
+use Rattle.valid_laws.specs.Safe.{SafeNest}
 use Rattle.affine_ast.specs.declared.image.Image.{Image}
 use Rattle.direct_meaning.specs.Memory.{Fits, start_env}
 
@@ -20,3 +21,8 @@ ValidIsBounded = (m : Module) → IsValid m → BoundedNest (nest m.body) (start
 -- from every memory that fits, each of its expressions may be evaluated wherever the list of actions comes to it
 abbrev pub ValidIsEvaluable : Type 0
 ValidIsEvaluable = (m : Module) → IsValid m → (memory : Image) → Fits m memory → EvaluableNest (nest m.body) (start_env m.args memory.symbols)
+
+-- from every memory that fits, every number that a walk of its text needs fits a machine word, and each memref name stands for a
+-- memref of the written type
+abbrev pub ValidIsSafe : Type 0
+ValidIsSafe = (m : Module) → IsValid m → (memory : Image) → Fits m memory → SafeNest (nest m.body) (start_env m.args memory.symbols)

@@ -1,3 +1,4 @@
 pub mod Bounded
 pub mod Evaluable
+pub mod Safe
 pub mod Laws

@@ -1,9 +1,10 @@
-//! Laws of a valid module: its bounds and values are affine and its steps positive, and all its affine values stay within 2^62.
+//! Laws of a valid module: its bounds and values are affine and its steps positive, all its affine values stay within 2^62, and every
+//! number that a walk of its text needs fits a machine word.
 //!
 //! The laws of ranges of `direct_meaning` ask for the first, and say that the numbers of a run lie in the ranges of the second. The crate stands on `affine_ast` and `direct_meaning`.
 #![tactic(auto)]
 
-ghost use Rattle.valid_laws.specs.Laws.{ValidIsAffine, ValidIsBounded, ValidIsEvaluable};
+ghost use Rattle.valid_laws.specs.Laws.{ValidIsAffine, ValidIsBounded, ValidIsEvaluable, ValidIsSafe};
 
 /// The bounds and the values of a valid module are affine, and its steps are positive: what the bound on the actions by the work and
 /// the ranges of the walk ask for.
@@ -21,4 +22,12 @@ pub fn valid_is_bounded()
 /// in each turn of the loops round it: it is pure, its leaves are among its operands, and each of its parts stays within 2^62.
 pub fn valid_is_evaluable()
     ensures { ValidIsEvaluable }
+{}
+
+/// From every memory that fits a valid module, wherever the list of its actions comes: the bounds of loops and the values that maps
+/// give stay within 2^62, operands fit their types, each memref name stands for a memref of the written type, and the numbers of
+/// slow places, of fast memrefs and of tags keep within the limits of a module. So a walk of the text over machine words needs no
+/// number that they can't hold.
+pub fn valid_is_safe()
+    ensures { ValidIsSafe }
 {}

@@ -1,0 +1,4 @@
+pub mod Saturated
+pub mod Table
+pub mod Workable
+pub mod Steps

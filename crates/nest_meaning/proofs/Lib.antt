@@ -1,0 +1,4 @@
+pub mod Registers
+pub mod Memories
+pub mod Runs
+pub mod Modules

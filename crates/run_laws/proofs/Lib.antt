@@ -1,0 +1,11 @@
+pub mod Runs
+pub mod Cells
+pub mod Typed
+pub mod PlainText
+pub mod RunHolds
+pub mod Memories
+pub mod Held
+pub mod Conclusions
+pub mod MetValues
+pub mod Within
+pub mod Once

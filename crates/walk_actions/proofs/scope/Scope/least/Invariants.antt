@@ -1,0 +1,12 @@
+use Rattle.std.proofs.Common.{◌≡◌, take, drop, map, fold, vec_capacity, List}
+use Rattle.std.specs.Int.{int_min}
+use Rattle.affine_expr.specs.declared.expr.Expr.{Expr}
+use Rattle.walk_actions.specs.Looked.{env_of}
+use Rattle.walk_actions.specs.Values.{value_in, use_of}
+use Rattle.walk_actions.proofs.scope.Scope.least.Given as goal
+
+abbrev pub invariant-loop-expr : goal.invariant-loop-expr
+invariant-loop-expr l = record {
+  best : l.least ≡ fold int_min l.initial.least (map (value_in (env_of l.self) (use_of l.self l.at)) (take l.expr-index l.rest));
+  capacity : vec_capacity l.room ≡ vec_capacity l.fn.room;
+}

@@ -1,0 +1,5 @@
+pub mod Looked
+pub mod Meant
+pub mod Values
+pub mod Changed
+pub mod Transfers

@@ -1,0 +1,5 @@
+use Rattle.walk_program.proofs.Parts.{plain-Store}
+use Rattle.walk_program.proofs.plains.number_store.Goals as goal
+
+pub returns : goal.returns
+returns c = plain-Store c.in_ok-number.ensures c.in_ok-number-2.ensures c.in_ok-subscripts.ensures c.in_ok-copy.ensures
