@@ -15,7 +15,7 @@ use Rattle.direct_meaning.specs.Work.{work}
 use Rattle.copy_emit.specs.Template.{FirstLoop}
 use Rattle.first_path.specs.Form.{IsOfFirstForm}
 use Rattle.mem_image.specs.Images as image
-use Rattle.nest_meaning.specs.Refilled.{with_slow}
+use Rattle.run_laws.specs.StaysFitting.{with_slow}
 use Rattle.mem_image.specs.Laws.{SpellsOne, BreaksOne, NotBoth}
 use Rattle.source_parts.specs.Parts.{text_part, image_part}
 use Rattle.affine_driver.specs.declared.command.Command.{Command}

@@ -16,7 +16,7 @@ use Rattle.bus_model.specs.declared.step.Verdict.TheVariants as verdict
 use Rattle.direct_meaning.specs.Direct.{plain, verdict_of, state_of}
 use Rattle.direct_meaning.specs.Work.{work}
 use Rattle.mem_image.specs.Images as image
-use Rattle.nest_meaning.specs.Refilled.{with_slow}
+use Rattle.run_laws.specs.StaysFitting.{with_slow}
 use Rattle.source_parts.specs.Parts.{text_part, image_part}
 use Rattle.affine_driver.specs.declared.command.Command.{Command}
 use Rattle.affine_driver.specs.declared.command.Command.TheVariants.{Check, Stage, Plain}
