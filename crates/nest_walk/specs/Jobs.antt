@@ -1,5 +1,5 @@
 -- What is left to do where a walk stands, as a list of regions and loops, each under what is known at its place.
-use Rattle.std.specs.Prelude.{ℕ, suc, ◌+◌, ℤ, pos, ◌≤ℤ◌, ◌<ℤ◌, List, [], ◌∷◌, ◌++◌, reverse, flat_map, Option, if◌then◌else◌}
+use Rattle.std.specs.Prelude.{ℕ, suc, ◌+◌, ℤ, pos, ◌≤ℤ◌, ◌<ℤ◌, List, [], ◌∷◌, ◌++◌, length, reverse, flat_map, vec_capacity, Option, if◌then◌else◌}
 use Rattle.affine_ast.specs.declared.name.Name.{Name}
 use Rattle.affine_ast.specs.Names.{put}
 use Rattle.affine_ast.specs.Nest.{Nest, Nothing, Loop, Branch, Does}
@@ -13,7 +13,8 @@ use Rattle.walk_program.specs.declared.statement.Statement.{Statement}
 use Rattle.walk_program.specs.Names.{name_at}
 use Rattle.walk_program.specs.Reading.{nest_of}
 use Rattle.walk_program.specs.Tree.{tree}
-use Rattle.walk_actions.specs.Looked.{env_of, homes_meant}
+use Rattle.walk_actions.specs.declared.action.Operand.{Operand}
+use Rattle.walk_actions.specs.Looked.{env_of, homes_meant, with_known, with_home}
 use Rattle.nest_walk.specs.declared.frame.Frame.{Frame}
 use Rattle.nest_walk.specs.declared.frame.Frame.TheVariants.{Rest, Known, Placed, Turns}
 use Rattle.nest_walk.specs.declared.position.Position.{Position}
@@ -42,29 +43,49 @@ abbrev pub past : Counts → Env → Env
 past counts e = record e { fasts = e.fasts + counts.fasts; tags = e.tags + counts.tags }
 
 -- where so much is allocated before in the text
+abbrev pub at_numbers : ℕ → ℕ → Env → Env
+at_numbers f t e = record e { fasts = f; tags = t }
+
 abbrev pub at_counts : Counts → Env → Env
 at_counts counts e = record e { fasts = counts.fasts; tags = counts.tags }
 
--- a name with what it had before
-abbrev pub known_again : Name → Option ℤ → Env → Env
-known_again n before e = record e { known = put e.known n before }
+-- where a walk stands: the names of the module, what is open below with the highest first, the statements in hand, what is
+-- known there, the subscripts of the last raw access, and room for the operands of a map, for subscripts and for frames
+pub record Stand : Type 0 where
+  pub names : List Name
+  pub frames : List Frame
+  pub rest : List Statement
+  pub env : Env
+  pub subscripts : List Operand
+  pub width : ℕ
+  pub uses : ℕ
+  pub capacity : ℕ
 
--- what the frames of a walk leave to do, the highest first, under what is known there
+unfoldable pub stand_of : Position → Stand
+stand_of p = record {
+  names = p.scope.names.now;
+  frames = reverse p.frames.items;
+  rest = p.rest.now;
+  env = env_of p.scope;
+  subscripts = p.subscripts.items;
+  width = vec_capacity p.numbers;
+  uses = vec_capacity p.subscripts;
+  capacity = vec_capacity p.frames;
+}
+
+-- what the frames of a walk leave to do under what is known there
 unfoldable pub jobs_of : List Name → List Frame → Env → List Job
 jobs_of names [] e = []
 jobs_of names (Rest statements passed ∷ frames) e = Region (region_of names statements.now) (past passed e) ∷ jobs_of names frames (behind (region_of names statements.now) (past passed e))
-jobs_of names (Known n before ∷ frames) e = jobs_of names frames (known_again (name_at names n) before e)
-jobs_of names (Placed n before ∷ frames) e = jobs_of names frames (record e { home = put e.home (name_at names n) (homes_meant before) })
+jobs_of names (Known n before ∷ frames) e = jobs_of names frames (with_known (name_at names n) before e)
+jobs_of names (Placed n before ∷ frames) e = jobs_of names frames (with_home (name_at names n) (homes_meant before) e)
 jobs_of names (Turns v before at upper step start inside body ∷ frames) e =
-    let loop = at_counts start (known_again (name_at names v) before e) in
+    let loop = at_counts start (with_known (name_at names v) before e) in
     Turning (name_at names v) at upper step (region_of names body.now) loop ∷ jobs_of names frames (behind (region_of names body.now) loop)
 
 -- what is left to do where a walk stands
-unfoldable pub jobs_at : Position → List Job
-jobs_at p =
-    let names = p.scope.names.now in
-    let region = region_of names p.rest.now in
-    Region region (env_of p.scope) ∷ jobs_of names (reverse p.frames.items) (behind region (env_of p.scope))
+unfoldable pub jobs_at : Stand → List Job
+jobs_at s = Region (region_of s.names s.rest) s.env ∷ jobs_of s.names s.frames (behind (region_of s.names s.rest) s.env)
 
 -- every number of a job fits
 abbrev pub SafeJob : Job → Type 0
@@ -96,3 +117,7 @@ job_steps (Turning v at upper step body e) = turn_steps (λ t. steps_in body (kn
 abbrev pub all_steps : List Job → ℕ
 all_steps [] = 0
 all_steps (job ∷ jobs) = job_steps job + all_steps jobs
+
+-- how many steps a walk may take before its next action: those of its jobs, and one for each frame
+unfoldable pub steps_at : Stand → ℕ
+steps_at s = all_steps (jobs_at s) + length s.frames

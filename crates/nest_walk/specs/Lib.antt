@@ -1,3 +1,5 @@
 pub mod Jobs
 pub mod Ready
+pub mod Arguments
+pub mod Stepped
 pub mod Walked

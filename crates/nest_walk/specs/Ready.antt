@@ -1,16 +1,20 @@
 -- What holds wherever a walk stands: its tables are those of its names, every number fits, and all memory is there.
-use Rattle.std.specs.Prelude.{◌≡◌, ℕ, ◌+◌, ◌≤◌, ◌<◌, max, List, [], ◌∷◌, length, reverse, vec_capacity}
+use Rattle.std.specs.Prelude.{◌≡◌, ℕ, ◌+◌, ◌≤◌, ◌<◌, max, List, [], ◌∷◌, length, reverse, vec_capacity, Option, Some, None}
 use Rattle.affine_ast.specs.declared.name.Name.{Name}
+use Rattle.direct_meaning.specs.Action.{Action}
+use Rattle.direct_meaning.specs.Static.{Env}
 use Rattle.walk_program.specs.declared.statement.Counts.{Counts}
 use Rattle.walk_program.specs.declared.statement.Statement.{Statement}
-use Rattle.walk_program.specs.Counted.{Counts-of, Counted}
+use Rattle.walk_program.specs.Counted.{CountsOf, Counted}
 use Rattle.walk_program.specs.Numbered.{Numbered}
 use Rattle.walk_program.specs.Tree.{Tree, Nothing, Loop, Branch, Does, tree}
+use Rattle.walk_actions.specs.declared.action.Action as code
 use Rattle.walk_actions.specs.Looked.{IsTable}
+use Rattle.walk_actions.specs.Meant.{meant, NamesIn}
 use Rattle.nest_walk.specs.declared.frame.Frame.{Frame}
 use Rattle.nest_walk.specs.declared.frame.Frame.TheVariants.{Rest, Known, Placed, Turns}
 use Rattle.nest_walk.specs.declared.position.Position.{Position}
-use Rattle.nest_walk.specs.Jobs.{region_of, jobs_at, SafeJobs}
+use Rattle.nest_walk.specs.Jobs.{Stand, stand_of, region_of, at_numbers, jobs_of, jobs_at, all_actions, steps_at, SafeJobs}
 
 -- how many frames statements need above their own: a loop two and those of its body, a condition one and those of a region, a
 -- plain statement one for what its name had before
@@ -23,6 +27,10 @@ room_of (Does line p rest) = 1 + room_of rest
 unfoldable pub room : List Statement → ℕ
 room statements = room_of (tree statements)
 
+abbrev pub other_room : Option (List Statement) → ℕ
+other_room None = 0
+other_room (Some statements) = room statements
+
 -- statements whose numbers are those of names, whose operands have room and whose counts are right
 pub record AreMade (names : List Name) (width : ℕ) (statements : List Statement) : Type 0 where
   pub numbered : Numbered (length names) width (tree statements)
@@ -32,7 +40,7 @@ abbrev pub IsMadeFrame : List Name → ℕ → Frame → Type 0
 IsMadeFrame names width (Rest statements passed) = AreMade names width statements.now
 IsMadeFrame names width (Known n before) = n < length names
 IsMadeFrame names width (Placed n before) = n < length names
-IsMadeFrame names width (Turns v before at upper step start inside body) = (v < length names) × AreMade names width body.now × Counts-of (region_of names body.now) inside
+IsMadeFrame names width (Turns v before at upper step start inside body) = (v < length names) × AreMade names width body.now × CountsOf (region_of names body.now) inside
 
 -- how many frames stand above one, at most, once it is taken
 abbrev pub need : Frame → ℕ
@@ -41,15 +49,70 @@ need (Known n before) = 0
 need (Placed n before) = 0
 need (Turns v before at upper step start inside body) = 1 + room body.now
 
--- the frames, the highest first
+-- the frames, the highest first, each with room above it
 unfoldable pub Stacked : List Name → ℕ → ℕ → List Frame → Type 0
 Stacked names width capacity [] = Unit {0}
-Stacked names width capacity (frame ∷ frames) = IsMadeFrame names width frame × (length frames + 1 ≤ capacity) × (length frames + need frame ≤ capacity) × Stacked names width capacity frames
+Stacked names width capacity (frame ∷ frames) = IsMadeFrame names width frame × (length frames + need frame ≤ capacity) × Stacked names width capacity frames
+
+-- a walk that can go on from where it stands
+pub record IsSound (s : Stand) : Type 0 where
+  pub made : AreMade s.names s.width s.rest
+  pub uses : s.width ≤ s.uses
+  pub stacked : Stacked s.names s.width s.capacity s.frames
+  pub room : length s.frames + room s.rest ≤ s.capacity
+  pub safe : SafeJobs (jobs_at s)
 
 pub record IsReady (p : Position) : Type 0 where
   pub table : IsTable p.scope
-  pub made : AreMade p.scope.names.now (vec_capacity p.numbers) p.rest.now
-  pub subscripts : vec_capacity p.numbers ≤ vec_capacity p.subscripts
-  pub stacked : Stacked p.scope.names.now (vec_capacity p.numbers) (vec_capacity p.frames) (reverse p.frames.items)
-  pub room : length p.frames.items + room p.rest.now ≤ vec_capacity p.frames
-  pub safe : SafeJobs (jobs_at p)
+  pub sound : IsSound (stand_of p)
+
+-- a position whose tables are those of its names stands there
+pub record IsAt (p : Position) (s : Stand) : Type 0 where
+  pub stand : stand_of p ≡ s
+  pub table : IsTable p.scope
+
+-- from where a walk stands it came to another place, at which as much is left to do in fewer steps
+pub record Skips (s t : Stand) : Type 0 where
+  pub sound : IsSound t
+  pub left : all_actions (jobs_at s) ≡ all_actions (jobs_at t)
+  pub fewer : steps_at t < steps_at s
+  pub names : t.names ≡ s.names
+  pub width : t.width ≡ s.width
+
+-- frames over those of a walk, under what is known now: where what they put back is there again, what is left to do is the same
+pub record Opens (s : Stand) (frames : List Frame) (e : Env) : Type 0 where
+  pub back : (f g : ℕ) → jobs_of s.names frames (at_numbers f g e) ≡ jobs_of s.names s.frames (at_numbers f g s.env)
+  pub more : length frames ≤ length s.frames + 1
+  pub stacked : Stacked s.names s.width s.capacity frames
+
+-- from where a walk stands it came to another place by an action
+pub record Acts (s t : Stand) (action : Action) : Type 0 where
+  pub sound : IsSound t
+  pub left : all_actions (jobs_at s) ≡ action ∷ all_actions (jobs_at t)
+  pub names : t.names ≡ s.names
+  pub width : t.width ≡ s.width
+
+-- a position to which a walk came from there, with as much left to do
+pub record Moved (p : Position) (s : Stand) : Type 0 where
+  pub skips : Skips s (stand_of p)
+  pub table : IsTable p.scope
+
+-- a position that came from there by a change of what is known
+pub record Opened (p : Position) (s : Stand) (e : Env) : Type 0 where
+  pub opens : Opens s (stand_of p).frames e
+  pub at : IsAt p (record s { frames = (stand_of p).frames; env = e })
+
+-- a position to which a walk came from there by an action
+pub record Acted (p : Position) (s : Stand) (action : Action) : Type 0 where
+  pub acts : Acts s (stand_of p) action
+  pub table : IsTable p.scope
+
+-- a position to which a walk came by an action by number, whose numbers are those of names
+pub record Did (action : code.Action) (p q : Position) : Type 0 where
+  pub acted : Acted q (stand_of p) (meant (stand_of p).names (stand_of q).subscripts action)
+  pub inside : NamesIn (length (stand_of p).names) (stand_of q).subscripts action
+
+-- a step of a walk: to an action, or to where as much is left to do
+abbrev pub Steps : Option code.Action → Position → Position → Type 0
+Steps None p q = Moved q (stand_of p)
+Steps (Some action) p q = Did action p q

@@ -6,7 +6,8 @@ use walk_program::{Counts, Statement};
 /// What is to be done when the statements in hand are done.
 #[derive(Drop)]
 pub enum Frame<'p> {
-    /// The statements behind a loop or a condition, with what is allocated in the text between: in a region that isn't taken.
+    /// The statements behind a loop or a condition, with what is allocated in the text of the `else` region where the first region
+    /// was taken; nothing elsewhere.
     Rest {
         statements: &'p [Statement],
         passed: Counts,

@@ -5,8 +5,11 @@
 //! `walk_actions` for the action of each plain statement, and on `valid_laws` for the premise that every number on the way fits.
 #![tactic(auto)]
 
+mod arguments;
 mod frame;
+mod moves;
 mod position;
+mod rooms;
 mod walk;
 
 pub use walk::Walk;

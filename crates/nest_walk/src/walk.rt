@@ -9,7 +9,9 @@ ghost use Rattle.walk_program.specs.Tree.{tree};
 ghost use Rattle.walk_program.specs.WellMade.{WellMade};
 ghost use Rattle.nest_walk.specs.Walked.{Next, Begins};
 
+use crate::arguments::placed;
 use crate::position::Position;
+use crate::rooms::room_needed;
 use affine_ast::Name;
 use std::alloc::{AllocError, Global};
 use std::marker::Model;
@@ -27,12 +29,12 @@ impl<'p> Model for Walk<'p> {
 
     ghost Value = { Walked };
 
-    ghost use Rattle.nest_walk.specs.Jobs.{all_actions, jobs_at};
+    ghost use Rattle.nest_walk.specs.Jobs.{all_actions, jobs_at, stand_of};
     ghost use Rattle.nest_walk.specs.Ready.{IsReady};
 
     ghost view = { λ w. record {
         names = w.position.scope.names.now;
-        left = all_actions (jobs_at w.position);
+        left = all_actions (jobs_at (stand_of w.position));
         subscripts = w.position.subscripts.items;
     } };
 
@@ -52,5 +54,50 @@ impl<'p> Walk<'p> {
         ensures { result.now ≡ self.now.subscripts }
     {
         &self.position.subscripts
+    }
+
+    /// A walk over a program for these index arguments. It takes all the memory that the walk needs.
+    ///
+    /// # Errors
+    ///
+    /// Out of memory, and so too where the elements of the arguments or the frames of the walk leave the machine's numbers. No
+    /// valid module has so many.
+    pub fn new(
+        alloc: Global,
+        program: &'p Program,
+        symbols: &[i64],
+    ) -> Result<Walk<'p>, AllocError>
+        requires made { WellMade program.now }
+        requires safe { SafeNest (nest_of program.now.names (tree program.now.body)) (start_env (arguments_of program.now.names program.now.arguments) symbols.now) }
+        ensures { IfOk result (Begins program.entry.now symbols.now) }
+    {
+        let Some(room) = room_needed(program.body.as_slice()) else {
+            return Err(AllocError);
+        };
+        let width = program.width as usize;
+        let scope = placed(
+            alloc,
+            program.names.as_slice(),
+            program.arguments.as_slice(),
+            symbols,
+        )?;
+        Ok(Walk {
+            position: Position {
+                frames: Vec::with_capacity(alloc, room)?,
+                rest: program.body.as_slice(),
+                scope,
+                numbers: Vec::with_capacity(alloc, width)?,
+                subscripts: Vec::with_capacity(alloc, width)?,
+            },
+        })
+    }
+
+    /// The next action, and nothing where none is left. It takes no memory. The subscripts of a raw access stand in the list
+    /// beside the action until the next raw access.
+    #[tactic(auto, unfolding(crate::specs::Jobs::stand_of))]
+    pub fn next(&mut self) -> Option<Action<'p>>
+        ensures { Next result self.old self.new }
+    {
+        self.position.advance()
     }
 }

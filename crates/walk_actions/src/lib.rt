@@ -16,4 +16,5 @@ mod transfers;
 
 pub use action::{Action, Home, Operand, Place};
 pub use change::Change;
+pub use places::within;
 pub use scope::Scope;

@@ -17,9 +17,9 @@ use affine_ast::MemrefType;
 use affine_expr::Expr;
 use walk_program::Subscripts;
 
-/// A subscript inside a size.
+/// A subscript that lies from 0 up to, and not including, a size; none for another one.
 #[tactic(auto, using(crate::proofs::Cells::withins))]
-fn within(subscript: i64, size: u32) -> Option<u32>
+pub fn within(subscript: i64, size: u32) -> Option<u32>
     ensures value { result ≡ within subscript size }
     ensures below { IfSome result (λ number. number < size) }
 {

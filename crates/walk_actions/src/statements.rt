@@ -4,6 +4,7 @@ ghost use Rattle.std.specs.Prelude.{◌≡◌, ◌<◌, ◌≤◌, ◌^◌, ℕ,
 ghost use Rattle.affine_ast.specs.declared.name.Name.{Name as TheName};
 ghost use Rattle.walk_actions.specs.declared.action.Operand.{Operand as TheOperand};
 ghost use Rattle.affine_ast.specs.Sizes.{product};
+ghost use Rattle.direct_meaning.specs.Action.{RawLoads, RawStores};
 ghost use Rattle.direct_meaning.specs.Static.{operand, tag_of, number};
 ghost use Rattle.direct_meaning.specs.Turns.{gap};
 ghost use Rattle.direct_meaning.specs.Actions.{constant_of, alloc_of, dealloc_of, wait_of, action_of};
@@ -147,6 +148,58 @@ impl<'p> Scope<'p> {
         }
     }
 
+    /// A load whose subscripts are values.
+    #[tactic(auto, unfolding(crate::specs::Meant::meant))]
+    fn raw_load<'q>(
+        &self,
+        into: u32,
+        memref: u32,
+        at: &[u32],
+        ty: &'q MemrefType,
+        uses: &mut Vec<Operand>,
+    ) -> Action<'q>
+        requires table { IsTable self.now }
+        requires into { into < length self.now.names.now }
+        requires memref { memref < length self.now.names.now }
+        requires names { Operands (length self.now.names.now) (vec_capacity uses.old) at.now }
+        ensures value { meant self.now.names.now uses.new.items result ≡ RawLoads (name_at self.now.names.now into) ((env_of self.now).home (name_at self.now.names.now memref)) ty.entry.now.sizes (map (operand (env_of self.now)) (names_at self.now.names.now at.now)) }
+        ensures inside { NamesIn (length self.now.names.now) uses.new.items result }
+        ensures stays { vec_capacity uses.new ≡ vec_capacity uses.old }
+    {
+        self.operands(at, uses);
+        Action::RawLoads {
+            into,
+            home: self.home(memref),
+            sizes: ty.sizes.as_slice(),
+        }
+    }
+
+    /// A store whose subscripts are values.
+    #[tactic(auto, unfolding(crate::specs::Meant::meant))]
+    fn raw_store<'q>(
+        &self,
+        value: u32,
+        memref: u32,
+        at: &[u32],
+        ty: &'q MemrefType,
+        uses: &mut Vec<Operand>,
+    ) -> Action<'q>
+        requires table { IsTable self.now }
+        requires value { value < length self.now.names.now }
+        requires memref { memref < length self.now.names.now }
+        requires names { Operands (length self.now.names.now) (vec_capacity uses.old) at.now }
+        ensures value { meant self.now.names.now uses.new.items result ≡ RawStores (operand (env_of self.now) (name_at self.now.names.now value)) ((env_of self.now).home (name_at self.now.names.now memref)) ty.entry.now.sizes (map (operand (env_of self.now)) (names_at self.now.names.now at.now)) }
+        ensures inside { NamesIn (length self.now.names.now) uses.new.items result }
+        ensures stays { vec_capacity uses.new ≡ vec_capacity uses.old }
+    {
+        self.operands(at, uses);
+        Action::RawStores {
+            value: self.operand(value),
+            home: self.home(memref),
+            sizes: ty.sizes.as_slice(),
+        }
+    }
+
     /// The action of a statement, where this is known. The subscripts of a raw access stand in `uses` then.
     #[tactic(auto, unfolding(crate::specs::Meant::meant, walk_program::specs::Reading::plain_of, direct_meaning::specs::Actions::action_of))]
     pub fn action<'q>(
@@ -189,27 +242,13 @@ impl<'p> Scope<'p> {
                 memref,
                 at,
                 ty,
-            } => {
-                self.operands(at.as_slice(), uses);
-                Action::RawLoads {
-                    into: *result,
-                    home: self.home(*memref),
-                    sizes: ty.sizes.as_slice(),
-                }
-            }
+            } => self.raw_load(*result, *memref, at.as_slice(), ty, uses),
             Plain::RawStore {
                 value,
                 memref,
                 at,
                 ty,
-            } => {
-                self.operands(at.as_slice(), uses);
-                Action::RawStores {
-                    value: self.operand(*value),
-                    home: self.home(*memref),
-                    sizes: ty.sizes.as_slice(),
-                }
-            }
+            } => self.raw_store(*value, *memref, at.as_slice(), ty, uses),
             Plain::Constant { result, value, ty } => constant(*result, *value, *ty),
             Plain::Binary {
                 result,

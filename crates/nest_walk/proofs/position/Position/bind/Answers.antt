@@ -1,0 +1,25 @@
+use Rattle.std.proofs.Common.{rules, ◌≡◌, refl, sym, ap, ◌∙◌, subst, arith, length, true, false}
+use Rattle.std.proofs.lemmas.Int.{to_z-of_z}
+use mir.Val.{to_z, SFits}
+use mir.Syntax.{w64}
+use Rattle.std.specs.Prelude.{Option, Some, None}
+use Rattle.std.specs.Option.{is_some}
+use Rattle.direct_meaning.specs.Static.{Env}
+use Rattle.valid_laws.specs.Safe.{SafeBound, SafeCondition, SafePlain, CountsFit}
+use Rattle.walk_program.specs.Reading.{bound_of, names_at, plain_of}
+use Rattle.walk_actions.specs.Changed.{changed}
+use Rattle.nest_walk.specs.Jobs.{Stand, stand_of}
+use Rattle.nest_walk.proofs.Frames.{fasts_at, tags_at}
+use Rattle.nest_walk.proofs.Steps.{bound_same, bound_new}
+use Rattle.nest_walk.proofs.position.Position.bind.Goals as goal
+
+is_none : {A : Type 0} (o : Option A) → is_some o ≡ false → None ≡ o
+is_none None h = refl
+is_none (Some x) h = cc
+
+pub returns-then-is_none-2 : goal.returns-then-is_none-2
+returns-then-is_none-2 c =
+    bound_same c.know-before.new.self (stand_of c.args.self.now) c.args.name c.args.number c.know-before.result c.requires.sound c.know-before.ensures.at.stand c.know-before.ensures.at.table (is_none c.know-before.result c.if-is_none.ensures) (is_none c.args.number c.if-is_none-2.ensures) c.know-before.ensures.before
+
+pub returns : goal.returns
+returns c = bound_new c.push.new.self (stand_of c.args.self.now) _ c.args.name c.args.number c.know-before.result c.requires.sound c.requires.name c.requires.room c.know-before.ensures.at.stand c.know-before.ensures.before c.push.ensures.stand c.push.ensures.table
