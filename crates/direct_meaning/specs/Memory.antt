@@ -1,6 +1,6 @@
 -- Memories of a module: what fits it, and what its names stand for at the start.
 pub use Rattle.affine_ast.specs.Intervals.{range_or}
-use Rattle.std.specs.Prelude.{◌≡◌, ℕ, suc, ◌+◌, ℤ, pos, ◌≤ℤ◌, List, [], ◌∷◌, length, drop, flat_map, fold, All, Option, Some, None, slice_index_or}
+use Rattle.std.specs.Prelude.{◌≡◌, ℕ, suc, ◌+◌, ℤ, pos, ◌≤ℤ◌, List, [], ◌∷◌, length, drop, flat_map, fold, All, Some, None, slice_index_or}
 use Rattle.affine_expr.specs.declared.map.Interval.{Interval}
 use Rattle.affine_ast.specs.declared.name.Name.{Name}
 use Rattle.affine_ast.specs.declared.image.Cells.{Cells}

@@ -14,8 +14,6 @@ use Rattle.affine_ast.specs.declared.types.Element.TheVariants.{I8, I16, I32, I6
 use Rattle.affine_ast.specs.declared.types.MemrefType.{MemrefType}
 use Rattle.affine_ast.specs.declared.types.Pick.{Pick}
 use Rattle.affine_ast.specs.declared.types.Pick.TheVariants.{Apply, Min, Max}
-use Rattle.affine_ast.specs.declared.types.Scalar.{Scalar}
-use Rattle.affine_ast.specs.declared.types.Scalar.TheVariants.{Int, Index}
 use Rattle.affine_ast.specs.Names.{put}
 use Rattle.direct_meaning.specs.Action.{Home, SlowMemref, FastMemref, TagMemref, Place, Slow, Fast, Outside, Operand, Number, Register}
 

@@ -1,20 +1,14 @@
 -- The work of a module: a bound on the number of its actions, from the text alone.
 pub use Rattle.affine_ast.specs.Intervals.{Ranges, ranges_at, over_all, pick_range, picked_range, turn_range}
 unfoldable pub use Rattle.affine_ast.specs.Intervals.{first_turn, last_end}
-use Rattle.std.specs.Prelude.{ℕ, ◌+◌, ◌*◌, ◌^◌, min, max, ℤ, pos, ◌-ℤ◌, List, [], ◌∷◌, map, take, drop, fold, slice_index_or}
-use Rattle.std.specs.Int.{int_min, int_max}
+use Rattle.std.specs.Prelude.{ℕ, ◌+◌, ◌*◌, ◌^◌, min, max, ℤ, pos, ◌-ℤ◌, List, fold}
 use Rattle.affine_expr.specs.Value.{ceil_div}
-use Rattle.affine_expr.specs.Spread.{Range, only, range_of}
+use Rattle.affine_expr.specs.Spread.{only}
 use Rattle.affine_ast.specs.declared.name.Name.{Name}
 use Rattle.affine_ast.specs.declared.module.Arg.{Arg}
 use Rattle.affine_ast.specs.declared.module.ArgKind.{ArgKind}
 use Rattle.affine_ast.specs.declared.module.ArgKind.TheVariants.{Memref, Index}
 use Rattle.affine_ast.specs.declared.module.Module.{Module}
-use Rattle.affine_ast.specs.declared.types.Access.{Access}
-use Rattle.affine_ast.specs.declared.types.Bound.{Bound}
-use Rattle.affine_ast.specs.declared.types.Bound.TheVariants as bound
-use Rattle.affine_ast.specs.declared.types.Pick.{Pick}
-use Rattle.affine_ast.specs.declared.types.Pick.TheVariants.{Apply, Min, Max}
 use Rattle.affine_ast.specs.declared.types.Scalar.{Scalar}
 use Rattle.affine_ast.specs.declared.types.Scalar.TheVariants as scalar
 use Rattle.affine_ast.specs.Names.{put}
