@@ -11,7 +11,7 @@ use Rattle.bus_model.specs.Copies.{moved_in, moved_out}
 use Rattle.tag_table.specs.declared.view.Parcel.{Parcel}
 use Rattle.tag_table.specs.Rule.{started_at}
 use Rattle.tag_table.specs.Shapes.{ComputeShape, MayStart, after_start, with_tag, with_prompt}
-use Rattle.affine_rows.specs.Carried.{place_at, may_carry}
+use Rattle.affine_rows.specs.Carried.{may_carry}
 
 both : (a b : Bool) → (a && b) ≡ true → (a ≡ true) × (b ≡ true)
 both true b e = (refl, e)
@@ -22,9 +22,8 @@ pass_at p a zero h e k lt is = absurd (omega arith)
 pass_at p a (suc n) h zero k lt is = ap p (let q : k ≡ a = omega arith in q) ∙ (both (p a) (list_all p (range_with_len (a + 1) n)) h).0
 pass_at p a (suc n) h (suc e) k lt is = pass_at p (a + 1) n (both (p a) (list_all p (range_with_len (a + 1) n)) h).1 e k (omega arith) (omega arith)
 
-pub fits : (t : Transfer) (n : ℕ) → list_all (λ e. nat_lt (place_at t e) n) (range_with_len 0 t.count) ≡ true → (e : ℕ) → e < t.count → slow_place t e < n
-unfolding slow_place
-fits t n h e lt = ltb-true (place_at t e) n (pass_at (λ e. nat_lt (place_at t e) n) 0 t.count h e e lt (omega arith))
+pub fits : (t : Transfer) (n : ℕ) → list_all (λ e. nat_lt (slow_place t e) n) (range_with_len 0 t.count) ≡ true → (e : ℕ) → e < t.count → slow_place t e < n
+fits t n h e lt = ltb-true (slow_place t e) n (pass_at (λ e. nat_lt (slow_place t e) n) 0 t.count h e e lt (omega arith))
 
 none_started : (u : ℕ) → started_at (None ∷ []) u ≡ None
 none_started zero = refl

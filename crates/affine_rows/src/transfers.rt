@@ -104,6 +104,7 @@ fn carried(
 }
 
 #[test]
+#[tactic(auto, unfolding(bus_model::specs::Places::slow_place))]
 fn transfers_carry_in(rt: HostRuntime) -> Result<(), Fail> {
     let words = [10, 11, 12, 13, 14, 15, 16, 17];
     let cells = Vec::from_elem(rt.alloc(), 0i64, 6)?;
@@ -123,6 +124,7 @@ fn transfers_carry_in(rt: HostRuntime) -> Result<(), Fail> {
 }
 
 #[test]
+#[tactic(auto, unfolding(bus_model::specs::Places::slow_place))]
 fn transfers_carry_out(rt: HostRuntime) -> Result<(), Fail> {
     let words = [10, 11, 12, 13, 14, 15, 16, 17];
     let cells = vec![in rt.alloc(); 1, 2, 3, 4]?;
