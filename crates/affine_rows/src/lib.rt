@@ -6,9 +6,13 @@ mod expressions;
 #[cfg(test)]
 mod images;
 #[cfg(test)]
+mod integers;
+#[cfg(test)]
 mod numbers;
 #[cfg(test)]
 mod operations;
+#[cfg(test)]
+mod runs;
 #[cfg(test)]
 mod streams;
 #[cfg(test)]
