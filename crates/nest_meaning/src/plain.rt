@@ -40,11 +40,11 @@ fn run(walk: &mut Walk<'_>, machine: &mut Machine<'_>) -> Verdict
 ///
 /// `AllocError`, for want of memory alone. All of it is taken before the run, and the memory is then as it was.
 pub fn run_plain(alloc: Global, module: &Verified, image: &mut Image) -> Result<Verdict, AllocError>
-    requires plain { plain_fault module.now.inner ≡ None }
-    requires fits { Fits module.now.inner image.old }
-    requires work { work module.now.inner ≤ 2 ^ 48 }
-    ensures runs { IfOk result (λ verdict. RunsPlain module.now.inner image.old verdict image.new) }
-    ensures fits { OnOk result (Fits module.now.inner image.new) }
+    requires plain { plain_fault «module».now.inner ≡ None }
+    requires fits { Fits «module».now.inner image.old }
+    requires work { work «module».now.inner ≤ 2 ^ 48 }
+    ensures runs { IfOk result (λ verdict. RunsPlain «module».now.inner image.old verdict image.new) }
+    ensures fits { OnOk result (Fits «module».now.inner image.new) }
     ensures unchanged { OnErr result (image.new ≡ image.old) }
 {
     let module = module.module();
