@@ -24,26 +24,26 @@ pub put_back : {A : Type 0} (f : Name → A) (n : Name) (v : A) → put (put f n
 unfolding put
 put_back f n v = fun_ext (λ x. by_test x (same_name n x) refl)
   where
-  by_test : (x : Name) (t : Bool) → same_name n x ≡ t → (if same_name n x then f n else (if same_name n x then v else f x)) ≡ f x
-  by_test x true e = rw e (ap f (same_name-eq n x e))
-  by_test x false e = rw e refl
+    by_test : (x : Name) (t : Bool) → same_name n x ≡ t → (if same_name n x then f n else (if same_name n x then v else f x)) ≡ f x
+    by_test x true e = rw e (ap f (same_name-eq n x e))
+    by_test x false e = rw e refl
 
 pub put_same : {A : Type 0} (f : Name → A) (n : Name) (v : A) → v ≡ f n → put f n v ≡ f
 unfolding put
 put_same f n v h = fun_ext (λ x. by_test x (same_name n x) refl)
   where
-  by_test : (x : Name) (t : Bool) → same_name n x ≡ t → (if same_name n x then v else f x) ≡ f x
-  by_test x true e = rw e (h ∙ ap f (same_name-eq n x e))
-  by_test x false e = rw e refl
+    by_test : (x : Name) (t : Bool) → same_name n x ≡ t → (if same_name n x then v else f x) ≡ f x
+    by_test x true e = rw e (h ∙ ap f (same_name-eq n x e))
+    by_test x false e = rw e refl
 
 -- the later number counts
 pub put_twice : {A : Type 0} (f : Name → A) (n : Name) (v w : A) → put (put f n v) n w ≡ put f n w
 unfolding put
 put_twice f n v w = fun_ext (λ x. by_test x (same_name n x) refl)
   where
-  by_test : (x : Name) (t : Bool) → same_name n x ≡ t → (if same_name n x then w else (if same_name n x then v else f x)) ≡ (if same_name n x then w else f x)
-  by_test x true e = rw e refl
-  by_test x false e = rw e refl
+    by_test : (x : Name) (t : Bool) → same_name n x ≡ t → (if same_name n x then w else (if same_name n x then v else f x)) ≡ (if same_name n x then w else f x)
+    by_test x true e = rw e refl
+    by_test x false e = rw e refl
 
 pub known_back : (e : Env) (n : Name) (z : Option ℤ) (f t : ℕ) → with_known n (e.known n) (at_numbers f t (with_known n z e)) ≡ at_numbers f t e
 known_back e n z f t = λ i. record { known = put_back e.known n z i; home = e.home; fasts = f; tags = t }
@@ -75,7 +75,7 @@ behind_loop line v l u s body rest e = counts_are e (e.fasts + fasts_in body + f
 pub behind_branch : (line : ℕ) (set : Set) (names : List Name) (first : Nest) (has : Bool) (other rest : Nest) (e : Env) → behind rest (behind other (behind first e)) ≡ behind (Branch line set names first has other rest) e
 behind_branch line set names first has other rest e =
     counts_are e (e.fasts + fasts_in first + fasts_in other + fasts_in rest) (e.tags + tags_in first + tags_in other + tags_in rest)
-      (e.fasts + (fasts_in first + fasts_in other + fasts_in rest)) (e.tags + (tags_in first + tags_in other + tags_in rest)) (omega arith) (omega arith)
+    (e.fasts + (fasts_in first + fasts_in other + fasts_in rest)) (e.tags + (tags_in first + tags_in other + tags_in rest)) (omega arith) (omega arith)
 
 -- what a plain statement allocates
 alloc_fasts : (t : Bool) (r : Name) (ty : MemrefType) (e : Env) → is_fast ty ≡ t → (after_alloc r ty e).fasts ≡ e.fasts + (if is_fast ty then 1 else 0)
@@ -133,4 +133,4 @@ tags_after Return e = none e.tags
 pub behind_does : (line : ℕ) (p : Plain) (rest : Nest) (e : Env)
     → at_numbers ((after_plain p e).fasts + fasts_in rest) ((after_plain p e).tags + tags_in rest) e ≡ behind (Does line p rest) e
 behind_does line p rest e = counts_are e ((after_plain p e).fasts + fasts_in rest) ((after_plain p e).tags + tags_in rest) (e.fasts + (fasts_of_plain p + fasts_in rest)) (e.tags + (tags_of_plain p + tags_in rest))
-  (omega (arith, fasts_after p e)) (omega (arith, tags_after p e))
+    (omega (arith, fasts_after p e)) (omega (arith, tags_after p e))

@@ -57,9 +57,9 @@ pub none_left : (p q : Position) (frame : Option Frame) (n m : ℕ) (P : Frame �
 unfolding stand_of
 none_left p q None n m P e h l = empty q.frames.items (omega (arith, h.0, l, ap length (e ∙ append-nil q.frames.items)))
   where
-  empty : (fs : List Frame) → length fs ≡ 0 → reverse fs ≡ []
-  empty [] z = refl
-  empty (f ∷ fs) z = absurd (omega (arith, z))
+    empty : (fs : List Frame) → length fs ≡ 0 → reverse fs ≡ []
+    empty [] z = refl
+    empty (f ∷ fs) z = absurd (omega (arith, z))
 none_left p q (Some frame) n m P e h l = tt
 
 pub fasts_at : (p : Position) → (stand_of p).env.fasts ≡ p.scope.fasts
@@ -76,16 +76,16 @@ pub none_in_hand : (p : Position) → length p.rest.now ≡ 0 → (stand_of p).r
 unfolding stand_of
 none_in_hand p h = empty p.rest.now h
   where
-  empty : (ss : List Statement) → length ss ≡ 0 → ss ≡ []
-  empty [] z = refl
-  empty (x ∷ ss) z = absurd (omega (arith, z))
+    empty : (ss : List Statement) → length ss ≡ 0 → ss ≡ []
+    empty [] z = refl
+    empty (x ∷ ss) z = absurd (omega (arith, z))
 
 pub first_in_hand : (p : Position) (x : Statement) → 0 < length p.rest.now → x ≡ get_or p.rest.now 0 x → (stand_of p).rest ≡ x ∷ take (length p.rest.now - 1) (drop 1 p.rest.now)
 unfolding stand_of
 first_in_hand p x h e = split p.rest.now h e
   where
-  split : (ss : List Statement) → 0 < length ss → x ≡ get_or ss 0 x → ss ≡ x ∷ take (length ss - 1) (drop 1 ss)
-  split [] h e = absurd (omega (arith, h))
-  split (w ∷ ss) h e =
-      let n : length (w ∷ ss) - 1 ≡ length ss = omega arith in
-      λ i. sym e i ∷ sym (ap (λ k. take k ss) n ∙ take_all (length ss) ss (omega arith)) i
+    split : (ss : List Statement) → 0 < length ss → x ≡ get_or ss 0 x → ss ≡ x ∷ take (length ss - 1) (drop 1 ss)
+    split [] h e = absurd (omega (arith, h))
+    split (w ∷ ss) h e =
+        let n : length (w ∷ ss) - 1 ≡ length ss = omega arith in
+        λ i. sym e i ∷ sym (ap (λ k. take k ss) n ∙ take_all (length ss) ss (omega arith)) i

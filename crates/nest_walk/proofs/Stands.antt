@@ -186,8 +186,8 @@ turn_done s v before at upper step start inside body frames sound empty is end =
         safe = empty_safe t empty (subst CountsFit last safe.0.0) (subst (λ g. SafeJobs (jobs_of s.names frames g)) last safe.1);
       };
       left = left_empty s empty ∙ ap all_actions js
-        ∙ (λ i. flat_map (λ t. actions region (knows loop (name_at s.names v) t)) (none i) ++ all_actions (jobs_of s.names frames (last i)))
-        ∙ sym (left_empty t empty);
+          ∙ (λ i. flat_map (λ t. actions region (knows loop (name_at s.names v) t)) (none i) ++ all_actions (jobs_of s.names frames (last i)))
+          ∙ sym (left_empty t empty);
       fewer = omega (arith, steps_empty s empty, steps_empty t empty, ap all_steps js, ap (turn_steps (λ t. steps_in region (knows loop (name_at s.names v) t))) none, ap (λ g. all_steps (jobs_of s.names frames g)) last, ap length is);
       names = refl;
       width = refl;
@@ -225,8 +225,8 @@ turn_more s v before at next upper step start inside body frames sound empty is 
     let region = region_of s.names body.now in
     let turn = turn_env s v before start at in
     let jt : jobs_at t ≡ Region region e ∷ Turning n next upper step region loop ∷ jobs_of s.names frames (behind region loop) =
-      turns_after t v before next upper step start inside body frames region refl refl refl
-      ∙ ap (λ g. Region region e ∷ Turning n next upper step region g ∷ jobs_of s.names frames (behind region g)) (loop_again s v before start at region) in
+    turns_after t v before next upper step start inside body frames region refl refl refl
+    ∙ ap (λ g. Region region e ∷ Turning n next upper step region g ∷ jobs_of s.names frames (behind region g)) (loop_again s v before start at region) in
     let rest = jobs_of s.names frames (behind region loop) in
     let safe = subst SafeJobs js (safe_empty s empty sound.safe).1 in
     record {
@@ -238,10 +238,10 @@ turn_more s v before at next upper step start inside body frames sound empty is 
         safe = subst SafeJobs (sym jt) (subst (SafeNest region) turn (safe.0.2 at (omega (arith, ints)) less), ((safe.0.0, safe.0.1, λ z low high. safe.0.2 z (omega (arith, ints, on_, low)) high), safe.1));
       };
       left = left_empty s empty ∙ ap all_actions js
-        ∙ ap (λ ts. flat_map (λ t. actions region (knows loop n t)) ts ++ all_actions rest) more
-        ∙ append_assoc (actions region (knows loop n at)) (flat_map (λ t. actions region (knows loop n t)) (turns next upper step)) (all_actions rest)
-        ∙ ap (λ g. actions region g ++ (flat_map (λ t. actions region (knows loop n t)) (turns next upper step) ++ all_actions rest)) turn
-        ∙ sym (ap all_actions jt);
+          ∙ ap (λ ts. flat_map (λ t. actions region (knows loop n t)) ts ++ all_actions rest) more
+          ∙ append_assoc (actions region (knows loop n at)) (flat_map (λ t. actions region (knows loop n t)) (turns next upper step)) (all_actions rest)
+          ∙ ap (λ g. actions region g ++ (flat_map (λ t. actions region (knows loop n t)) (turns next upper step) ++ all_actions rest)) turn
+          ∙ sym (ap all_actions jt);
       fewer = omega (arith, steps_empty s empty, ap all_steps js, ap (turn_steps (λ t. steps_in region (knows loop n t))) more, ap (steps_in region) turn, ap all_steps jt, ap length is);
       names = refl;
       width = refl;
@@ -281,9 +281,9 @@ loop_started s line v l u step inside start nil before at upper body rest sound 
     let next : past nil (behind R e) ≡ behind R e = past_zero nil (behind R e) zf zg in
     let last : behind R' (behind R e) ≡ behind L e = behind_loop line n (bound_of s.names l) (bound_of s.names u) step R R' e in
     let je : jobs_of t.names t.frames t.env ≡ Turning n at upper step R e ∷ Region R' (behind R e) ∷ jobs_of s.names s.frames (behind L e) =
-      (λ i. Turning n at upper step R (own i) ∷ Region R' (past nil (behind R (own i))) ∷ jobs_of s.names s.frames (behind R' (past nil (behind R (own i)))))
-      ∙ (λ i. Turning n at upper step R e ∷ Region R' (next i) ∷ jobs_of s.names s.frames (behind R' (next i)))
-      ∙ (λ i. Turning n at upper step R e ∷ Region R' (behind R e) ∷ jobs_of s.names s.frames (last i)) in
+    (λ i. Turning n at upper step R (own i) ∷ Region R' (past nil (behind R (own i))) ∷ jobs_of s.names s.frames (behind R' (past nil (behind R (own i)))))
+    ∙ (λ i. Turning n at upper step R e ∷ Region R' (next i) ∷ jobs_of s.names s.frames (behind R' (next i)))
+    ∙ (λ i. Turning n at upper step R e ∷ Region R' (behind R e) ∷ jobs_of s.names s.frames (last i)) in
     let rest_safe : SafeNest R' (behind R e) = safe.0.3 in
     let X = jobs_of s.names s.frames (behind L e) in
     record {
@@ -295,13 +295,13 @@ loop_started s line v l u step inside start nil before at upper body rest sound 
         safe = empty_safe t refl safe.0.0 (subst SafeJobs (sym je) ((safe_counts R' (behind R e) rest_safe, safe.0.1.step, λ z lo hi. safe.0.2 z (subst (λ x. x ≤ℤ z) low lo) (subst (λ x. z <ℤ x) high hi)), (rest_safe, safe.1)));
       };
       left = ap all_actions js
-        ∙ ap (λ xs. xs ++ all_actions X) (actions-Loop line n (bound_of s.names l) (bound_of s.names u) step R R' e)
-        ∙ append_assoc (flat_map (λ t. actions R (knows e n t)) (turns (lower_of e (bound_of s.names l)) (upper_of e (bound_of s.names u)) step)) (actions R' (behind R e)) (all_actions X)
-        ∙ (λ i. flat_map (λ t. actions R (knows e n t)) (turns (sym low i) (sym high i) step) ++ (actions R' (behind R e) ++ all_actions X))
-        ∙ sym (left_empty t refl ∙ ap all_actions je);
+          ∙ ap (λ xs. xs ++ all_actions X) (actions-Loop line n (bound_of s.names l) (bound_of s.names u) step R R' e)
+          ∙ append_assoc (flat_map (λ t. actions R (knows e n t)) (turns (lower_of e (bound_of s.names l)) (upper_of e (bound_of s.names u)) step)) (actions R' (behind R e)) (all_actions X)
+          ∙ (λ i. flat_map (λ t. actions R (knows e n t)) (turns (sym low i) (sym high i) step) ++ (actions R' (behind R e) ++ all_actions X))
+          ∙ sym (left_empty t refl ∙ ap all_actions je);
       fewer =
-        let same : turn_steps (λ t. steps_in R (knows e n t)) (turns at upper step) ≡ turn_steps (λ t. steps_in R (knows e n t)) (turns (lower_of e (bound_of s.names l)) (upper_of e (bound_of s.names u)) step) = λ i. turn_steps (λ t. steps_in R (knows e n t)) (turns (low i) (high i) step) in
-        omega (arith, ap all_steps js, steps_empty t refl, ap all_steps je, same);
+          let same : turn_steps (λ t. steps_in R (knows e n t)) (turns at upper step) ≡ turn_steps (λ t. steps_in R (knows e n t)) (turns (lower_of e (bound_of s.names l)) (upper_of e (bound_of s.names u)) step) = λ i. turn_steps (λ t. steps_in R (knows e n t)) (turns (low i) (high i) step) in
+          omega (arith, ap all_steps js, steps_empty t refl, ap all_steps je, same);
       names = refl;
       width = refl;
     }
@@ -350,8 +350,8 @@ branch_into s line set operands first n has other m rest chosen passed e sound i
     let safe = subst SafeJobs js sound.safe in
     let last : behind R (behind O (behind F s.env)) ≡ behind B s.env = behind_branch line set names F has O R s.env in
     let je : jobs_at t ≡ Region C e ∷ Region R (behind O (behind F s.env)) ∷ jobs_of s.names s.frames (behind B s.env) =
-      (λ i. Region C e ∷ Region R (next i) ∷ jobs_of s.names s.frames (behind R (next i)))
-      ∙ (λ i. Region C e ∷ Region R (behind O (behind F s.env)) ∷ jobs_of s.names s.frames (last i)) in
+    (λ i. Region C e ∷ Region R (next i) ∷ jobs_of s.names s.frames (behind R (next i)))
+    ∙ (λ i. Region C e ∷ Region R (behind O (behind F s.env)) ∷ jobs_of s.names s.frames (last i)) in
     let X = jobs_of s.names s.frames (behind B s.env) in
     record {
       sound = record {
@@ -362,9 +362,9 @@ branch_into s line set operands first n has other m rest chosen passed e sound i
         safe = subst SafeJobs (sym je) (safe_chosen, (safe.0.4, safe.1));
       };
       left = ap all_actions js
-        ∙ ap (λ xs. xs ++ all_actions X) (actions-Branch line set names F has O R s.env ∙ ap (λ xs. xs ++ actions R (behind O (behind F s.env))) (sym acts))
-        ∙ append_assoc (actions C e) (actions R (behind O (behind F s.env))) (all_actions X)
-        ∙ sym (ap all_actions je);
+          ∙ ap (λ xs. xs ++ all_actions X) (actions-Branch line set names F has O R s.env ∙ ap (λ xs. xs ++ actions R (behind O (behind F s.env))) (sym acts))
+          ∙ append_assoc (actions C e) (actions R (behind O (behind F s.env))) (all_actions X)
+          ∙ sym (ap all_actions je);
       fewer = omega (arith, ap all_steps js, ap all_steps je, steps);
       names = refl;
       width = refl;
@@ -379,9 +379,9 @@ first_taken s line set operands first n has other m rest sound is true_ =
     let counts = subst (Counted s.names) is sound.made.counted in
     let safe = subst (λ r. SafeNest r s.env) (ap (nest_of s.names) is) sound.safe.0 in
     branch_into s line set operands (tree first.now) n has other m rest first m s.env sound is
-      (record { numbered = numbered.1; counted = counts.2 }) (omega (arith, sound.room, ap room_of is)) safe.2
-      (past_is m (nest_of s.names other) (behind (nest_of s.names (tree first.now)) s.env) counts.1)
-      (rw true_ refl) (rw true_ refl)
+    (record { numbered = numbered.1; counted = counts.2 }) (omega (arith, sound.room, ap room_of is)) safe.2
+    (past_is m (nest_of s.names other) (behind (nest_of s.names (tree first.now)) s.env) counts.1)
+    (rw true_ refl) (rw true_ refl)
 
 pub other_taken : (s : Stand) (line : ℕ) (set : Set) (operands : List ℕ) (first : Tree) (n : Counts) (has : Bool) (other : Tree) (m nil : Counts) (rest chosen : Bor (List Statement)) (f g : ℕ) → IsSound s
     → tree s.rest ≡ Branch line set operands first n has other m (tree rest.now) → holds_at s.env set (names_at s.names operands) ≡ false → tree chosen.now ≡ other
@@ -395,12 +395,12 @@ other_taken s line set operands first n has other m nil rest chosen f g sound is
     let region : region_of s.names chosen.now ≡ nest_of s.names other = ap (nest_of s.names) which in
     let e : at_numbers f g s.env ≡ behind (nest_of s.names first) s.env = (λ i. at_numbers (p i) (q i) s.env) ∙ past_is n (nest_of s.names first) s.env counts.0 in
     branch_into s line set operands first n has other m rest chosen nil (at_numbers f g s.env) sound is
-      (record { numbered = subst (Numbered (length s.names) s.width) (sym which) numbered.2; counted = subst (Counted s.names) (sym which) counts.3 })
-      (omega (arith, sound.room, ap room_of is, ap room_of which))
-      (subst (λ r. SafeNest r (at_numbers f g s.env)) (sym region) (subst (SafeNest (nest_of s.names other)) (sym e) safe.3))
-      (past_zero nil (behind (region_of s.names chosen.now) (at_numbers f g s.env)) zf zg ∙ (λ i. behind (region i) (e i)))
-      ((λ i. actions (region i) (e i)) ∙ rw no_ refl)
-      ((λ i. steps_in (region i) (e i)) ∙ rw no_ refl)
+    (record { numbered = subst (Numbered (length s.names) s.width) (sym which) numbered.2; counted = subst (Counted s.names) (sym which) counts.3 })
+    (omega (arith, sound.room, ap room_of is, ap room_of which))
+    (subst (λ r. SafeNest r (at_numbers f g s.env)) (sym region) (subst (SafeNest (nest_of s.names other)) (sym e) safe.3))
+    (past_zero nil (behind (region_of s.names chosen.now) (at_numbers f g s.env)) zf zg ∙ (λ i. behind (region i) (e i)))
+    ((λ i. actions (region i) (e i)) ∙ rw no_ refl)
+    ((λ i. steps_in (region i) (e i)) ∙ rw no_ refl)
 
 -- ---- a plain statement is done
 
@@ -427,9 +427,9 @@ acted s line p rest frames e sound is after_ opens =
     let safe = subst SafeJobs js sound.safe in
     let g = after_plain P s.env in
     let je : jobs_at u ≡ Region R g ∷ jobs_of s.names s.frames (behind D s.env) =
-      (λ i. Region R (after_ i) ∷ opens.back (e.fasts + fasts_in R) (e.tags + tags_in R) i)
-      ∙ (λ i. Region R g ∷ jobs_of s.names s.frames (at_numbers ((after_ i).fasts + fasts_in R) ((after_ i).tags + tags_in R) s.env))
-      ∙ ap (λ h. Region R g ∷ jobs_of s.names s.frames h) (behind_does line P R s.env) in
+    (λ i. Region R (after_ i) ∷ opens.back (e.fasts + fasts_in R) (e.tags + tags_in R) i)
+    ∙ (λ i. Region R g ∷ jobs_of s.names s.frames (at_numbers ((after_ i).fasts + fasts_in R) ((after_ i).tags + tags_in R) s.env))
+    ∙ ap (λ h. Region R g ∷ jobs_of s.names s.frames h) (behind_does line P R s.env) in
     record {
       sound = record {
         made = record { numbered = numbered.1; counted = counts };

@@ -54,11 +54,11 @@ last_turn at upper step less h past =
 pub later_past : (at upper step : ℤ) → SFits w64 at → SFits w64 upper → pos 0 <ℤ step → (SFits w64 (at +ℤ step) → ⊥) → upper ≤ℤ (at +ℤ step)
 later_past at upper step a b h wide = by_test (lt_z (at +ℤ step) upper) refl
   where
-  by_test : (t : Bool) → lt_z (at +ℤ step) upper ≡ t → upper ≤ℤ (at +ℤ step)
-  by_test false e = grind (arith, ints, e)
-  by_test true e =
-      let less : (at +ℤ step) <ℤ upper = grind (arith, ints, e) in
-      absurd (wide (omega (arith, ints, a, b, h, less)))
+    by_test : (t : Bool) → lt_z (at +ℤ step) upper ≡ t → upper ≤ℤ (at +ℤ step)
+    by_test false e = grind (arith, ints, e)
+    by_test true e =
+        let less : (at +ℤ step) <ℤ upper = grind (arith, ints, e) in
+        absurd (wide (omega (arith, ints, a, b, h, less)))
 
 pub ruleset laters = (later_turns, last_turn, later_past)
 
@@ -158,8 +158,8 @@ loop_moved s a b c d e line v l u step inside start before at upper body rest so
     let to_d = t ∙ ap {B = Stand} (λ (m : Stand). record m { frames = on.Turns v before at upper step start inside body ∷ m.frames }) (r ∙ ap {B = Stand} (λ (m : Stand). record m { frames = on.Rest rest no_counts ∷ m.frames }) b_is) in
     let to_e = w ∙ ap {B = Stand} (λ (m : Stand). record m { rest = [] }) to_d in
     subst (Skips s) (sym to_e)
-      (loop_started s line v l u step inside start no_counts before at upper body rest sound is low (high ∙ ap (λ (m : Stand). upper_of m.env (bound_of m.names u)) p) (was ∙ ap (λ (m : Stand). m.env.known (name_at m.names v)) b_is)
-        (f ∙ ap (λ (m : Stand). m.env.fasts) b_is) (g ∙ ap (λ (m : Stand). m.env.tags) b_is) refl refl)
+    (loop_started s line v l u step inside start no_counts before at upper body rest sound is low (high ∙ ap (λ (m : Stand). upper_of m.env (bound_of m.names u)) p) (was ∙ ap (λ (m : Stand). m.env.known (name_at m.names v)) b_is)
+    (f ∙ ap (λ (m : Stand). m.env.fasts) b_is) (g ∙ ap (λ (m : Stand). m.env.tags) b_is) refl refl)
 
 pub first_moved : (s a b c : Stand) (line : ℕ) (set : Set) (operands : List ℕ) (first : Bor (List Statement)) (n : Counts) (has : Bool) (other : Tree) (m : Counts) (rest : Bor (List Statement)) → IsSound s
     → tree s.rest ≡ Branch line set operands (tree first.now) n has other m (tree rest.now) → true ≡ holds_at s.env set (names_at s.names operands)
@@ -176,7 +176,7 @@ other_moved s a b c d line set operands first n has other m rest f g sound is fa
     let to_c = r ∙ ap {B = Stand} (λ (z : Stand). record z { frames = on.Rest rest no_counts ∷ z.frames }) to_b in
     let to_d = t ∙ ap {B = Stand} (λ (z : Stand). record z { rest = other.now }) to_c in
     subst (Skips s) (sym to_d)
-      (other_taken s line set operands first n has (tree other.now) m no_counts rest other f g sound is (sym failing) refl (x ∙ ap (λ (z : Stand). z.env.fasts + n.fasts) p) (y ∙ ap (λ (z : Stand). z.env.tags + n.tags) p) refl refl)
+    (other_taken s line set operands first n has (tree other.now) m no_counts rest other f g sound is (sym failing) refl (x ∙ ap (λ (z : Stand). z.env.fasts + n.fasts) p) (y ∙ ap (λ (z : Stand). z.env.tags + n.tags) p) refl refl)
 
 -- ---- a plain statement
 
@@ -206,7 +206,7 @@ pub placed_new : (p : Position) (s a b : Stand) (n : ℕ) (home : Option Home) (
 placed_new p s a b n home before f g sound inside room_ q was r is table =
     let to_b = r ∙ ap {B = Stand} (λ (m : Stand). record m { env = at_numbers f g m.env }) q in
     opened_at p s (on.Placed n before ∷ s.frames) (at_numbers f g (with_home (name_at s.names n) (homes_meant home) s.env)) (is ∙ ap {B = Stand} (λ (m : Stand). record m { frames = on.Placed n before ∷ m.frames }) to_b) table
-      (opens_placed s n home before f g sound inside room_ was)
+    (opens_placed s n home before f g sound inside room_ was)
 
 pub same_kept : (p : Position) (s : Stand) → IsSound s → stand_of p ≡ s → IsTable p.scope → Opened p s s.env
 same_kept p s sound is table = opened_at p s s.frames s.env is table (opens_nothing s sound)

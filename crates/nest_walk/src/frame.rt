@@ -13,9 +13,15 @@ pub enum Frame<'p> {
         passed: Counts,
     },
     /// The number that a name had before the region gave it another one.
-    Known { name: u32, before: Option<i64> },
+    Known {
+        name: u32,
+        before: Option<i64>,
+    },
     /// What a memref's name stood for before the region gave it to an allocation.
-    Placed { name: u32, before: Option<Home> },
+    Placed {
+        name: u32,
+        before: Option<Home>,
+    },
     /// The turns that are left of a loop: the number that its variable had before it, the next turn, what is allocated before the
     /// loop and in its body.
     Turns {

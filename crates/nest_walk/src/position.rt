@@ -31,7 +31,7 @@ pub struct Position<'p> {
 
 impl<'p> Position<'p> {
     /// Puts a frame on the others.
-    
+
     pub fn push(&mut self, frame: Frame<'p>)
         requires table { IsTable self.old.scope }
         requires room { length (stand_of self.old).frames < (stand_of self.old).capacity }
@@ -41,7 +41,7 @@ impl<'p> Position<'p> {
     }
 
     /// Takes the highest frame.
-    
+
     pub fn pop(&mut self) -> Option<Frame<'p>>
         requires table { IsTable self.old.scope }
         ensures frame { (stand_of self.old).frames ≡ option_to_list result ++ (stand_of self.new).frames }

@@ -33,9 +33,9 @@ impl<'p> Model for Walk<'p> {
     ghost use Rattle.nest_walk.specs.Ready.{IsReady};
 
     ghost view = { λ w. record {
-        names = w.position.scope.names.now;
-        left = all_actions (jobs_at (stand_of w.position));
-        subscripts = w.position.subscripts.items;
+      names = w.position.scope.names.now;
+      left = all_actions (jobs_at (stand_of w.position));
+      subscripts = w.position.subscripts.items;
     } };
 
     ghost invariant = { λ w. IsReady w.position };
@@ -62,11 +62,7 @@ impl<'p> Walk<'p> {
     ///
     /// Out of memory, and so too where the elements of the arguments or the frames of the walk leave the machine's numbers. No
     /// valid module has so many.
-    pub fn new(
-        alloc: Global,
-        program: &'p Program,
-        symbols: &[i64],
-    ) -> Result<Walk<'p>, AllocError>
+    pub fn new(alloc: Global, program: &'p Program, symbols: &[i64]) -> Result<Walk<'p>, AllocError>
         requires made { WellMade program.now }
         requires safe { SafeNest (nest_of program.now.names (tree program.now.body)) (start_env (arguments_of program.now.names program.now.arguments) symbols.now) }
         ensures { IfOk result (Begins program.entry.now symbols.now) }

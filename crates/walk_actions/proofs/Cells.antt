@@ -53,8 +53,8 @@ pub cell_none : (ns : List ℕ) (zs : List ℤ) (k c : ℕ) (o : Option ℕ) →
     → o ≡ row_major (Some c) (product (drop k ns)) (cell_in (drop k ns) (drop k zs)) → None ≡ o
 cell_none ns zs k c o p q h e =
     sym (e
-      ∙ (λ i. row_major (Some c) (product (drops ns k 0 p i)) (cell_in (drops ns k 0 p i) (drops zs k (pos 0) q i)))
-      ∙ ap (λ a. row_major (Some c) (get_or ns k 0 * product (drop (k + 1) ns)) (row_major a (product (drop (k + 1) ns)) (cell_in (drop (k + 1) ns) (drop (k + 1) zs)))) h)
+    ∙ (λ i. row_major (Some c) (product (drops ns k 0 p i)) (cell_in (drops ns k 0 p i) (drops zs k (pos 0) q i)))
+    ∙ ap (λ a. row_major (Some c) (get_or ns k 0 * product (drop (k + 1) ns)) (row_major a (product (drop (k + 1) ns)) (cell_in (drop (k + 1) ns) (drop (k + 1) zs)))) h)
 
 -- the number so far stays below the number of elements
 pub cell_bound : (ns : List ℕ) (k c w : ℕ) → All (λ n. 1 ≤ n) ns → k < length ns → w < get_or ns k 0 → (c + 1) * product (drop k ns) ≤ product ns → (c * get_or ns k 0 + w + 1) * product (drop (k + 1) ns) ≤ product ns

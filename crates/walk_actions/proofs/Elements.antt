@@ -24,7 +24,7 @@ each_valued : (e : Env) (at : Access) (es : List Expr) → All (Evaluable (dims_
 each_valued e at [] p q = λ k d h. absurd (omega (arith, h))
 each_valued e at (x ∷ es) p q =
     All-cons (HasValue e at) x es (record { evaluable = All-head (Evaluable (dims_of e at) (syms_of e at)) x es p; small = All-head IsSmall (value_in e at x) (map (value_in e at) es) q })
-      (each_valued e at es (All-tail (Evaluable (dims_of e at) (syms_of e at)) x es p) (All-tail IsSmall (value_in e at x) (map (value_in e at) es) q))
+    (each_valued e at es (All-tail (Evaluable (dims_of e at) (syms_of e at)) x es p) (All-tail IsSmall (value_in e at x) (map (value_in e at) es) q))
 
 -- each result has its value
 pub all_valued : (s : Scope) (at : Subscripts) → SafeAccess (env_of s) (use_of s at) → All (HasValue (env_of s) (use_of s at)) at.map.results
@@ -111,7 +111,9 @@ half_is number ns e at x half cell h l is p q =
     (λ i. fast_at number (p i) (q i)) ∙ sym (λ i. half_place number (split_sizes ns h i) (results_are e at x l is i))
 
 pub ruleset cells = (all_valued, room_is)
+
 pub ruleset places = (slow_stands, fast_stands, slow_place, slow_outside, fast_place, tags_place, no_place, few)
+
 pub ruleset tags = (tags_stand, tag_there, tag_outside, tag_slow, tag_fast, tag_none, few)
 
 pub few_memref : (home : Option meaning.Home) (ty : MemrefType) → IsMemref home ty → product ty.sizes < 2 ^ 32

@@ -12,11 +12,11 @@ use Rattle.valid_laws.specs.Safe.{StandsFor, IsMemref}
 pub fast_rank : (home : Option Home) (ty : MemrefType) → IsMemref home ty → ty.space ≡ 1 → 1 ≤ length ty.sizes
 fast_rank home ty h one = by_home home h.stands
   where
-  by_home : (home : Option Home) → StandsFor home ty → 1 ≤ length ty.sizes
-  by_home None h = absurd h
-  by_home (Some (SlowMemref number first)) h = absurd (omega (arith, h.space, one))
-  by_home (Some (FastMemref number)) h = h.has_halves
-  by_home (Some (TagMemref first)) h = absurd (omega (arith, h.space, one))
+    by_home : (home : Option Home) → StandsFor home ty → 1 ≤ length ty.sizes
+    by_home None h = absurd h
+    by_home (Some (SlowMemref number first)) h = absurd (omega (arith, h.space, one))
+    by_home (Some (FastMemref number)) h = h.has_halves
+    by_home (Some (TagMemref first)) h = absurd (omega (arith, h.space, one))
 
 pub slow_space : (home : Option Home) (ty : MemrefType) (number first : ℕ) → Some (SlowMemref number first) ≡ home → IsMemref home ty → (ty.space ≡ 0) × (first + product ty.sizes < 2 ^ 32)
 slow_space home ty number first is h = let s = subst (λ home. StandsFor home ty) (sym is) h.stands in (s.space, omega (arith, s.places_fit))

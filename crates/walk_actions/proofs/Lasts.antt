@@ -28,11 +28,12 @@ ordered e f chunk stride some wide h =
     let qc = f / chunk * chunk in
     elim (dec_le (f / chunk) (e / chunk)) [
       | yes back ↦ elim (dec_le (e / chunk) (f / chunk)) [
-          | yes on ↦ (let same : e / chunk ≡ f / chunk = omega (arith, back, on) in
-                      let sp = ap (λ z. z * stride) same in
-                      let sc = ap (λ z. z * chunk) same in
-                      omega (arith, be, bf, de, df, sp, sc, h))
-          | no off ↦ absurd (let m = further (f / chunk) (e / chunk) chunk (omega (arith, off)) in omega (arith, be, bf, de, df, m, h)) ]
+        | yes on ↦ (let same : e / chunk ≡ f / chunk = omega (arith, back, on) in
+            let sp = ap (λ z. z * stride) same in
+            let sc = ap (λ z. z * chunk) same in
+            omega (arith, be, bf, de, df, sp, sc, h))
+        | no off ↦ absurd (let m = further (f / chunk) (e / chunk) chunk (omega (arith, off)) in omega (arith, be, bf, de, df, m, h))
+      ]
       | no off ↦ (let m = further (e / chunk) (f / chunk) stride (omega (arith, off)) in omega (arith, be, bf, m, wide))
     ]
 
@@ -81,6 +82,7 @@ last_fits n chunk stride p q r =
     omega (arith, a, c)
 
 pub ruleset lasts = (last_fits)
+
 pub ruleset chunkings = (place_above)
 
 -- where the last element lies below a place, all numbers of the transfer do or are within the limits

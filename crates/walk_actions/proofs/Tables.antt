@@ -30,9 +30,9 @@ looked_at (m ∷ ms) [] k d l h = absurd (omega (arith, l))
 looked_at (m ∷ ms) (x ∷ xs) zero d l h = rw (same_name-refl m) refl
 looked_at (m ∷ ms) (x ∷ xs) (suc k) d l h = by_test (same_name m (name_at ms k)) refl (looked_at ms xs k (distinct_tail m ms d) (omega (arith, l)) (omega (arith, h)))
   where
-  by_test : (t : Bool) → same_name m (name_at ms k) ≡ t → looked ms xs (name_at ms k) ≡ get_or xs k None → (if same_name m (name_at ms k) then x else looked ms xs (name_at ms k)) ≡ get_or xs k None
-  by_test true e more = absurd (distinct_head m ms k d (omega (arith, h)) (same_name-eq m (name_at ms k) e))
-  by_test false e more = rw e more
+    by_test : (t : Bool) → same_name m (name_at ms k) ≡ t → looked ms xs (name_at ms k) ≡ get_or xs k None → (if same_name m (name_at ms k) then x else looked ms xs (name_at ms k)) ≡ get_or xs k None
+    by_test true e more = absurd (distinct_head m ms k d (omega (arith, h)) (same_name-eq m (name_at ms k) e))
+    by_test false e more = rw e more
 
 set_at : {A : Type 0} (names : List Name) (xs : List (Option A)) (k : ℕ) (v : Option A) (n : Name) → AreDistinct names → length xs ≡ length names → k < length names
     → looked names (set xs k v) n ≡ (if same_name (name_at names k) n then v else looked names xs n)
@@ -41,19 +41,19 @@ set_at [] xs k v n d l h = absurd (omega (arith, h))
 set_at (m ∷ ms) [] k v n d l h = absurd (omega (arith, l))
 set_at (m ∷ ms) (x ∷ xs) zero v n d l h = by_test (same_name m n) refl
   where
-  by_test : (t : Bool) → same_name m n ≡ t → (if same_name m n then v else looked ms xs n) ≡ (if same_name m n then v else (if same_name m n then x else looked ms xs n))
-  by_test true e = rw e refl
-  by_test false e = rw e refl
+    by_test : (t : Bool) → same_name m n ≡ t → (if same_name m n then v else looked ms xs n) ≡ (if same_name m n then v else (if same_name m n then x else looked ms xs n))
+    by_test true e = rw e refl
+    by_test false e = rw e refl
 set_at (m ∷ ms) (x ∷ xs) (suc k) v n d l h =
     ap (λ y. if same_name m n then x else y) (set_at ms xs k v n (distinct_tail m ms d) (omega (arith, l)) (omega (arith, h)))
     ∙ by_tests (same_name m n) (same_name (name_at ms k) n) refl refl
   where
-  by_tests : (s t : Bool) → same_name m n ≡ s → same_name (name_at ms k) n ≡ t
-      → (if same_name m n then x else (if same_name (name_at ms k) n then v else looked ms xs n)) ≡ (if same_name (name_at ms k) n then v else (if same_name m n then x else looked ms xs n))
-  by_tests true true p q = absurd (distinct_head m ms k d (omega (arith, h)) (same_name-eq m n p ∙ sym (same_name-eq (name_at ms k) n q)))
-  by_tests true false p q = rw (p, q) refl
-  by_tests false true p q = rw (p, q) refl
-  by_tests false false p q = rw (p, q) refl
+    by_tests : (s t : Bool) → same_name m n ≡ s → same_name (name_at ms k) n ≡ t
+        → (if same_name m n then x else (if same_name (name_at ms k) n then v else looked ms xs n)) ≡ (if same_name (name_at ms k) n then v else (if same_name m n then x else looked ms xs n))
+    by_tests true true p q = absurd (distinct_head m ms k d (omega (arith, h)) (same_name-eq m n p ∙ sym (same_name-eq (name_at ms k) n q)))
+    by_tests true false p q = rw (p, q) refl
+    by_tests false true p q = rw (p, q) refl
+    by_tests false false p q = rw (p, q) refl
 
 -- writing the entry of a number changes what its name has, and nothing else
 pub looked_set : {A : Type 0} (names : List Name) (xs : List (Option A)) (k : ℕ) (v : Option A) → AreDistinct names → length xs ≡ length names → k < length names → looked names (set xs k v) ≡ put (looked names xs) (name_at names k) v
@@ -70,9 +70,9 @@ looked_none {A = A} [] count n = refl
 looked_none {A = A} (m ∷ ms) zero n = refl
 looked_none {A = A} (m ∷ ms) (suc count) n = by_test (same_name m n) refl (looked_none ms count n)
   where
-  by_test : (t : Bool) → same_name m n ≡ t → looked {A = A} ms (replicate count None) n ≡ None → (if same_name m n then none_of A else looked {A = A} ms (replicate count None) n) ≡ none_of A
-  by_test true e more = rw e refl
-  by_test false e more = rw e more
+    by_test : (t : Bool) → same_name m n ≡ t → looked {A = A} ms (replicate count None) n ≡ None → (if same_name m n then none_of A else looked {A = A} ms (replicate count None) n) ≡ none_of A
+    by_test true e more = rw e refl
+    by_test false e more = rw e more
 
 pub known_at : (s : Scope) (k : ℕ) → IsTable s → k < length s.names.now → (env_of s).known (name_at s.names.now k) ≡ get_or s.known.items k None
 known_at s k t h = looked_at s.names.now s.known.items k t.distinct t.known h
@@ -124,9 +124,9 @@ put_meant : (table : Name → Option Home) (n : Name) (home : Option Home) → (
 unfolding put
 put_meant table n home = fun_ext (λ x. by_test x (same_name n x) refl)
   where
-  by_test : (x : Name) (t : Bool) → same_name n x ≡ t → homes_meant (if same_name n x then home else table x) ≡ (if same_name n x then homes_meant home else homes_meant (table x))
-  by_test x true e = rw e refl
-  by_test x false e = rw e refl
+    by_test : (x : Name) (t : Bool) → same_name n x ≡ t → homes_meant (if same_name n x then home else table x) ≡ (if same_name n x then homes_meant home else homes_meant (table x))
+    by_test x true e = rw e refl
+    by_test x false e = rw e refl
 
 -- a memref written down
 pub home_set : (s t : Scope) (k : ℕ) (home : Option Home) → IsTable s → k < length s.names.now → t.names.now ≡ s.names.now → t.homes.items ≡ set s.homes.items k home → t.known.items ≡ s.known.items → t.fasts ≡ s.fasts → t.tags ≡ s.tags

@@ -52,10 +52,10 @@ dim_value s at n expr is h =
     let j : n < at.map.dims = omega (arith, k, length-take at.map.dims (numbers e names)) in
     let l : n < length at.operands = dim_below s at n expr is h in
     sym (ap (value_in e (use_of s at)) is
-      ∙ value-Dim (dims_of e (use_of s at)) (syms_of e (use_of s at)) n
-      ∙ get_or-take at.map.dims (numbers e names) n (pos 0) j
-      ∙ get_or-mapped (λ m. number (e.known m)) names n (name_at s.names.now 0) (pos 0) (omega (arith, l, length-map at.operands (name_at s.names.now)))
-      ∙ ap (λ m. number (e.known m)) (get_or-mapped (name_at s.names.now) at.operands n 0 (name_at s.names.now 0) l))
+    ∙ value-Dim (dims_of e (use_of s at)) (syms_of e (use_of s at)) n
+    ∙ get_or-take at.map.dims (numbers e names) n (pos 0) j
+    ∙ get_or-mapped (λ m. number (e.known m)) names n (name_at s.names.now 0) (pos 0) (omega (arith, l, length-map at.operands (name_at s.names.now)))
+    ∙ ap (λ m. number (e.known m)) (get_or-mapped (name_at s.names.now) at.operands n 0 (name_at s.names.now 0) l))
 
 pub dims_fit : (s : Scope) (cap : ℕ) (at : Subscripts) (xs : List ℤ) → HasRoom s cap at → xs ≡ numbers (env_of s) (names_at s.names.now at.operands) → at.map.dims ≤ length xs
 dims_fit s cap at xs h e = omega (arith, h.dims, ap length e, numbers_length (env_of s) s at.operands)
@@ -86,9 +86,9 @@ pub no_results : (e : Env) (at : Access) → length at.map.results ≡ 0 → res
 unfolding results_of
 no_results e at h = none at.map.results h
   where
-  none : (es : List Expr) → length es ≡ 0 → map (value (dims_of e at) (syms_of e at)) es ≡ []
-  none [] h = refl
-  none (x ∷ es) h = absurd (omega (arith, h))
+    none : (es : List Expr) → length es ≡ 0 → map (value (dims_of e at) (syms_of e at)) es ≡ []
+    none [] h = refl
+    none (x ∷ es) h = absurd (omega (arith, h))
 
 split : {A : Type 0} (xs : List A) (x : A) → 0 < length xs → x ≡ get_or xs 0 x → xs ≡ x ∷ drop 1 xs
 split [] x h e = absurd (omega (arith, h))

@@ -40,9 +40,18 @@ pub enum Action<'p> {
     /// A constant of type index, or a result of `affine.apply`, `min` or `max`: where it is used its value stands already.
     Known,
     /// A constant of an integer type.
-    Sets { into: u32, value: i64 },
-    Loads { into: u32, place: Place },
-    Stores { value: Operand, place: Place },
+    Sets {
+        into: u32,
+        value: i64,
+    },
+    Loads {
+        into: u32,
+        place: Place,
+    },
+    Stores {
+        value: Operand,
+        place: Place,
+    },
     /// A load whose subscripts are values. They stand in the list of subscripts that the walk has beside it.
     RawLoads {
         into: u32,
@@ -81,11 +90,20 @@ pub enum Action<'p> {
         sizes: &'p [u32],
     },
     /// Tags: the number of the first one, and how many.
-    AllocatesTags { first: u32, count: u32 },
-    ReleasesTags { first: u32, count: u32 },
+    AllocatesTags {
+        first: u32,
+        count: u32,
+    },
+    ReleasesTags {
+        first: u32,
+        count: u32,
+    },
     Starts(Transfer),
     /// The number of the tag, and the count of elements.
-    Waits { tag: u32, count: u64 },
+    Waits {
+        tag: u32,
+        count: u64,
+    },
     /// A start or a wait that its static part makes a fault.
     Faults(FaultKind),
     Returns,

@@ -34,6 +34,7 @@ pub fn within(subscript: i64, size: u32) -> Option<u32>
 
 impl<'p> Scope<'p> {
     /// The number of an element, row-major; none where a subscript is outside its size.
+    #[inline(always)]
     fn cell(
         &self,
         sizes: &[u32],
@@ -108,13 +109,7 @@ impl<'p> Scope<'p> {
 
     /// Where an access of a memref goes.
     #[tactic(auto, using(crate::proofs::Elements::places))]
-    pub fn place(
-        &self,
-        memref: u32,
-        at: &Subscripts,
-        ty: &MemrefType,
-        room: &mut Vec<i64>,
-    ) -> Place
+    pub fn place(&self, memref: u32, at: &Subscripts, ty: &MemrefType, room: &mut Vec<i64>) -> Place
         requires table { IsTable self.now }
         requires memref { memref < length self.now.names.now }
         requires operands { Operands (length self.now.names.now) (vec_capacity room.old) at.now.operands }
@@ -154,7 +149,12 @@ impl<'p> Scope<'p> {
                 Some(cell) => Some(first + cell),
                 None => None,
             },
-            Some(Home::Slow { number: _, first: _ }) => None,
+            Some(
+                Home::Slow {
+                    number: _,
+                    first: _,
+                },
+            ) => None,
             Some(Home::Fast(_)) => None,
             None => None,
         }

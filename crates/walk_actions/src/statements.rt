@@ -102,7 +102,12 @@ impl<'p> Scope<'p> {
                 first,
                 count: elements(ty.sizes.as_slice()),
             },
-            Some(Home::Slow { number: _, first: _ }) => Action::Known,
+            Some(
+                Home::Slow {
+                    number: _,
+                    first: _,
+                },
+            ) => Action::Known,
             None => Action::Known,
         }
     }

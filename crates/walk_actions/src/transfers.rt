@@ -200,11 +200,27 @@ impl<'p> Scope<'p> {
         let from_place = self.place(from.memref, from.at, from.ty, room);
         let to_place = self.place(to.memref, to.at, to.ty, room);
         let number = self.tag(tag.memref, tag.at, tag.ty, room);
-        if let Some(Home::Slow { number: memref, first }) = self.home(from.memref) {
-            return transfer(true, memref, first, from.ty, to.ty, chunks, from_place, to_place, number);
+        if let Some(
+            Home::Slow {
+                number: memref,
+                first,
+            },
+        ) = self.home(from.memref)
+        {
+            return transfer(
+                true, memref, first, from.ty, to.ty, chunks, from_place, to_place, number,
+            );
         }
-        if let Some(Home::Slow { number: memref, first }) = self.home(to.memref) {
-            return transfer(false, memref, first, to.ty, from.ty, chunks, to_place, from_place, number);
+        if let Some(
+            Home::Slow {
+                number: memref,
+                first,
+            },
+        ) = self.home(to.memref)
+        {
+            return transfer(
+                false, memref, first, to.ty, from.ty, chunks, to_place, from_place, number,
+            );
         }
         Action::Faults(FaultKind::Bounds)
     }

@@ -9,5 +9,5 @@ pub returns-clause-env : goal.returns-clause-env
 unfolding start_env
 returns-clause-env c =
     ap (λ (p : Placed). p.env) (c.loop-argument.invariant.placed
-      ∙ ap (λ xs. fold place_arg (record { env = empty_env; memrefs = 0; elements = 0; symbols = c.args.symbols.now }) (map (argument_of c.args.names.now) xs))
-          (take_all c.loop-argument.argument-index c.args.arguments.now (omega arith)))
+    ∙ ap (λ xs. fold place_arg (record { env = empty_env; memrefs = 0; elements = 0; symbols = c.args.symbols.now }) (map (argument_of c.args.names.now) xs))
+    (take_all c.loop-argument.argument-index c.args.arguments.now (omega arith)))

@@ -25,12 +25,12 @@ room_with-returns-in_ok-room_needed-in-For t c =
 pub room_with-returns-in-None : goal.room_with-returns-in-None
 room_with-returns-in-None t c =
     if_some c.condition_room.result _ _ (λ n e. needs_if c.args.form.now c.args.rest c.in_ok-first-in-If.first 0 n c.in-If.set c.in-If.operands c.in-If.first c.in-If.first_inside c.in-If.other_inside None (c.in-If.is ∙ ap (λ o. form.If c.in-If.set c.in-If.operands c.in-If.first c.in-If.first_inside o c.in-If.other_inside) c.in-None.is)
-      (c.in_ok-first-in-If.ensures ∙ ap room c.as_slice-in-If.ensures) refl e) c.condition_room.ensures
+    (c.in_ok-first-in-If.ensures ∙ ap room c.as_slice-in-If.ensures) refl e) c.condition_room.ensures
 
 pub room_with-returns-in_ok-room_needed-in-Some : goal.room_with-returns-in_ok-room_needed-in-Some
 room_with-returns-in_ok-room_needed-in-Some t c =
     if_some c.condition_room-in-Some.result _ _ (λ n e. needs_if c.args.form.now c.args.rest c.in_ok-first-in-If.first c.in_ok-room_needed-in-Some.field-0 n c.in-If.set c.in-If.operands c.in-If.first c.in-If.first_inside c.in-If.other_inside (Some c.in-Some.other) (c.in-If.is ∙ ap (λ o. form.If c.in-If.set c.in-If.operands c.in-If.first c.in-If.first_inside o c.in-If.other_inside) c.in-Some.is)
-      (c.in_ok-first-in-If.ensures ∙ ap room c.as_slice-in-If.ensures) (c.in_ok-room_needed-in-Some.ensures ∙ ap room c.as_slice-in-Some.ensures) e) c.condition_room-in-Some.ensures
+    (c.in_ok-first-in-If.ensures ∙ ap room c.as_slice-in-If.ensures) (c.in_ok-room_needed-in-Some.ensures ∙ ap room c.as_slice-in-Some.ensures) e) c.condition_room-in-Some.ensures
 
 pub room_with-returns-in-Plain : goal.room_with-returns-in-Plain
 room_with-returns-in-Plain t c = if_some c.plain_room.result _ _ (λ n e. needs_plain c.args.form.now c.args.rest n c.in-Plain.field-0 c.in-Plain.is e) c.plain_room.ensures

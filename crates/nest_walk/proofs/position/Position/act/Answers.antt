@@ -38,5 +38,5 @@ returns-clause-acted c =
     let there = c.action-action.ensures.at.stand ∙ ap {B = Stand} (λ (m : Stand). record m { subscripts = (stand_of c.action-action.new.self).subscripts }) c.change_of-change.ensures.at.stand in
     let uses = ap (λ (m : Stand). m.subscripts) c.take.ensures.stand ∙ ap (λ (m : Stand). m.subscripts) c.change.ensures.at.stand in
     acted_at (stand_of c.args.self.now) (stand_of c.action-action.new.self) c.change.new.self c.take.new.self c.requires.there.0 c.args.plain.now c.args.rest _ _ c.requires.ready.sound c.requires.there.1
-      there (ap (λ (m : Stand). changed m.names c.change_of-change.result m.env) there ∙ c.change_of-change.ensures.value) c.change.ensures c.take.ensures.stand c.take.ensures.table
-      ((λ i. meant (sym (ap (λ (m : Stand). m.names) c.change_of-change.ensures.at.stand) i) (uses i) c.action-action.result) ∙ c.action-action.ensures.value ∙ ap (λ (m : Stand). action_of (plain_of m.names c.args.plain.now) m.env) c.change_of-change.ensures.at.stand)
+    there (ap (λ (m : Stand). changed m.names c.change_of-change.result m.env) there ∙ c.change_of-change.ensures.value) c.change.ensures c.take.ensures.stand c.take.ensures.table
+    ((λ i. meant (sym (ap (λ (m : Stand). m.names) c.change_of-change.ensures.at.stand) i) (uses i) c.action-action.result) ∙ c.action-action.ensures.value ∙ ap (λ (m : Stand). action_of (plain_of m.names c.args.plain.now) m.env) c.change_of-change.ensures.at.stand)

@@ -31,13 +31,13 @@ push-requires-else-holds-clause-room c = omega (arith, (branch_fits (stand_of c.
 pub returns-then-holds : goal.returns-then-holds
 returns-then-holds c = record {
   skips = first_moved (stand_of c.args.self.now) _ _ _ c.requires.there.0 c.args.set.now c.args.operands.now c.args.first c.args.first_inside c.requires.there.1 _ c.args.other_inside c.args.rest c.requires.ready.sound c.requires.there.2
-    c.if-holds.ensures.value c.holds.ensures.at.stand c.push.ensures.stand c.take.ensures.stand;
+      c.if-holds.ensures.value c.holds.ensures.at.stand c.push.ensures.stand c.take.ensures.stand;
   table = c.take.ensures.table;
 }
 
 pub returns-else-holds : goal.returns-else-holds
 returns-else-holds c = record {
   skips = other_moved (stand_of c.args.self.now) (stand_of c.holds.new.self) _ _ _ c.requires.there.0 c.args.set.now c.args.operands.now _ c.args.first_inside c.requires.there.1 c.args.other c.args.other_inside c.args.rest _ _ c.requires.ready.sound c.requires.there.2
-    c.if-holds.ensures.value (omega (arith, fasts_at c.holds.new.self)) (omega (arith, tags_at c.holds.new.self)) c.holds.ensures.at.stand c.count.ensures.stand c.push-else-holds.ensures.stand c.take-else-holds.ensures.stand;
+      c.if-holds.ensures.value (omega (arith, fasts_at c.holds.new.self)) (omega (arith, tags_at c.holds.new.self)) c.holds.ensures.at.stand c.count.ensures.stand c.push-else-holds.ensures.stand c.take-else-holds.ensures.stand;
   table = c.take-else-holds.ensures.table;
 }

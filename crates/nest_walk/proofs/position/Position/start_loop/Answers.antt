@@ -36,7 +36,7 @@ returns c =
     let u : SFits w64 c.upper-upper.result = search rules in
     record {
       skips = loop_moved (stand_of c.args.self.now) (stand_of c.lower-at.new.self) (stand_of c.upper-upper.new.self) _ _ _ c.requires.there.0 c.args.var c.args.lower.now c.args.upper.now c.args.step c.args.inside _ c.known-before.result c.lower-at.result c.upper-upper.result c.args.body c.args.rest c.requires.ready.sound c.requires.there.1
-        c.lower-at.ensures.value c.upper-upper.ensures.value c.known-before.ensures (sym (fasts_at c.upper-upper.new.self)) (sym (tags_at c.upper-upper.new.self))
-        c.lower-at.ensures.at.stand c.upper-upper.ensures.at.stand c.push.ensures.stand (simp to_z-of_z at c.push-2.ensures.stand) c.take.ensures.stand;
+          c.lower-at.ensures.value c.upper-upper.ensures.value c.known-before.ensures (sym (fasts_at c.upper-upper.new.self)) (sym (tags_at c.upper-upper.new.self))
+          c.lower-at.ensures.at.stand c.upper-upper.ensures.at.stand c.push.ensures.stand (simp to_z-of_z at c.push-2.ensures.stand) c.take.ensures.stand;
       table = c.take.ensures.table;
     }

@@ -34,8 +34,8 @@ returns-then-at-upper c =
     let n : SFits w64 c.later-next.result = search rules in
     record {
       skips = turned (stand_of c.args.self.now) _ _ _ _ c.args.var c.args.before c.args.at c.later-next.result c.args.upper c.args.step c.args.start c.args.inside c.args.body c.requires.sound c.requires.empty (omega (arith, ints, c.if-at-upper.true))
-        (simp to_z-of_z at c.later-next.ensures.later) (simp to_z-of_z at c.later-next.ensures.turns)
-        (simp to_z-of_z at c.push.ensures.stand) (simp to_z-of_z at c.know.ensures.at.stand) c.count.ensures.stand c.take.ensures.stand;
+          (simp to_z-of_z at c.later-next.ensures.later) (simp to_z-of_z at c.later-next.ensures.turns)
+          (simp to_z-of_z at c.push.ensures.stand) (simp to_z-of_z at c.know.ensures.at.stand) c.count.ensures.stand c.take.ensures.stand;
       table = c.take.ensures.table;
     }
 
@@ -43,6 +43,6 @@ pub returns-else-at-upper : goal.returns-else-at-upper
 returns-else-at-upper c =
     record {
       skips = ended (stand_of c.args.self.now) _ _ c.args.var c.args.before c.args.at c.args.upper c.args.step c.args.start c.args.inside c.args.body c.requires.sound c.requires.empty (omega (arith, ints, c.if-at-upper.false))
-        c.know-else-at-upper.ensures.at.stand c.count-else-at-upper.ensures.stand;
+          c.know-else-at-upper.ensures.at.stand c.count-else-at-upper.ensures.stand;
       table = c.count-else-at-upper.ensures.table;
     }

@@ -24,7 +24,7 @@ returns-in_err-number-clause-value c =
     let none = (simp to_z-of_z at c.in_err-number.ensures.value) in
     c.from_residual.ensures
     ∙ cell_none c.args.sizes.now subscripts c.loop-place.place c.loop-place.cell _ (omega arith) (omega (arith, length-map c.args.results.now (value_in (env_of c.args.self.now) (use_of c.args.self.now c.args.at.now))))
-        (ap (λ y. within y (get_or c.args.sizes.now c.loop-place.place 0)) (sym z) ∙ sym none) c.loop-place.invariant.rest
+    (ap (λ y. within y (get_or c.args.sizes.now c.loop-place.place 0)) (sym z) ∙ sym none) c.loop-place.invariant.rest
 
 pub overflow_mul-cell : goal.overflow_mul-cell
 overflow_mul-cell c =
@@ -44,7 +44,7 @@ loop-place-preserved c =
     let some = (simp to_z-of_z at c.in_ok-number.ensures.value) in
     record {
       rest = cell_more c.args.sizes.now subscripts c.loop-place.place c.loop-place.cell c.in_ok-number.number _ (omega arith) (omega (arith, length-map c.args.results.now (value_in (env_of c.args.self.now) (use_of c.args.self.now c.args.at.now))))
-        (ap (λ y. within y (get_or c.args.sizes.now c.loop-place.place 0)) (sym z) ∙ sym some) c.loop-place.invariant.rest;
+          (ap (λ y. within y (get_or c.args.sizes.now c.loop-place.place 0)) (sym z) ∙ sym some) c.loop-place.invariant.rest;
       bound = cell_bound c.args.sizes.now c.loop-place.place c.loop-place.cell c.in_ok-number.number c.requires.sizes (omega arith) c.in_ok-number.ensures.below c.loop-place.invariant.bound;
       capacity = c.value-subscript.ensures.capacity ∙ c.loop-place.invariant.capacity;
     }

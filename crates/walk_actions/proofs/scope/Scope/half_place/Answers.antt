@@ -34,8 +34,8 @@ returns-in-Some-cell-clause-value c =
     let at = use_of c.args.self.now c.args.at.now in
     let half = (simp to_z-of_z at c.in-Some.ensures.value) in
     half_is c.args.number c.args.ty.now.sizes e at c.index-results-0.result _ _ (omega (arith, c.requires.fast.has_halves)) (omega (arith, c.requires.rank, c.requires.fast.has_halves)) (c.index-results-0.is ∙ ap (λ xs. get_or xs 0 c.index-results-0.result) c.as_slice-results.ensures)
-      (half ∙ (λ i. within (c.value-subscript.ensures.value i) (get_or (c.as_slice-sizes.ensures i) 0 0)))
-      (c.in-Some-cell.ensures.value ∙ (λ i. cell_in (rest_is c.args.ty.now.sizes c.as_slice-sizes.result.now _ c.as_slice-sizes.ensures refl i) (map (value_in e at) (rest_is c.args.at.now.map.results c.as_slice-results.result.now _ c.as_slice-results.ensures refl i))))
+    (half ∙ (λ i. within (c.value-subscript.ensures.value i) (get_or (c.as_slice-sizes.ensures i) 0 0)))
+    (c.in-Some-cell.ensures.value ∙ (λ i. cell_in (rest_is c.args.ty.now.sizes c.as_slice-sizes.result.now _ c.as_slice-sizes.ensures refl i) (map (value_in e at) (rest_is c.args.at.now.map.results c.as_slice-results.result.now _ c.as_slice-results.ensures refl i))))
 
 pub returns-in-None-clause-value : goal.returns-in-None-clause-value
 returns-in-None-clause-value c =
@@ -44,8 +44,8 @@ returns-in-None-clause-value c =
     let at = use_of c.args.self.now c.args.at.now in
     let half = (simp to_z-of_z at c.in-Some.ensures.value) in
     half_is c.args.number c.args.ty.now.sizes e at c.index-results-0.result _ _ (omega (arith, c.requires.fast.has_halves)) (omega (arith, c.requires.rank, c.requires.fast.has_halves)) (c.index-results-0.is ∙ ap (λ xs. get_or xs 0 c.index-results-0.result) c.as_slice-results.ensures)
-      (half ∙ (λ i. within (c.value-subscript.ensures.value i) (get_or (c.as_slice-sizes.ensures i) 0 0)))
-      (c.in-None.ensures.value ∙ (λ i. cell_in (rest_is c.args.ty.now.sizes c.as_slice-sizes.result.now _ c.as_slice-sizes.ensures refl i) (map (value_in e at) (rest_is c.args.at.now.map.results c.as_slice-results.result.now _ c.as_slice-results.ensures refl i))))
+    (half ∙ (λ i. within (c.value-subscript.ensures.value i) (get_or (c.as_slice-sizes.ensures i) 0 0)))
+    (c.in-None.ensures.value ∙ (λ i. cell_in (rest_is c.args.ty.now.sizes c.as_slice-sizes.result.now _ c.as_slice-sizes.ensures refl i) (map (value_in e at) (rest_is c.args.at.now.map.results c.as_slice-results.result.now _ c.as_slice-results.ensures refl i))))
 
 pub returns-in_default-clause-value : goal.returns-in_default-clause-value
 returns-in_default-clause-value c =
@@ -54,5 +54,5 @@ returns-in_default-clause-value c =
     let at = use_of c.args.self.now c.args.at.now in
     let half = (simp to_z-of_z at c.in_default.ensures.value) in
     half_is c.args.number c.args.ty.now.sizes e at c.index-results-0.result _ _ (omega (arith, c.requires.fast.has_halves)) (omega (arith, c.requires.rank, c.requires.fast.has_halves)) (c.index-results-0.is ∙ ap (λ xs. get_or xs 0 c.index-results-0.result) c.as_slice-results.ensures)
-      (half ∙ (λ i. within (c.value-subscript.ensures.value i) (get_or (c.as_slice-sizes.ensures i) 0 0)))
-      refl
+    (half ∙ (λ i. within (c.value-subscript.ensures.value i) (get_or (c.as_slice-sizes.ensures i) 0 0)))
+    refl

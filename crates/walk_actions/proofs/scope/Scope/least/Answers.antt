@@ -48,5 +48,5 @@ returns-clause-value c =
     let best = (simp to_z-of_z at c.loop-expr.invariant.best) in
     let some = eqb-false _ _ (sym c.is_empty.ensures ∙ c.if-is_empty.false) in
     best_all int_min (env_of c.args.self.now) (use_of c.args.self.now c.args.at.now) c.index-results-0.result (take (length c.as_slice-results.result.now - 1) (drop 1 c.as_slice-results.result.now)) c.loop-expr.expr-index _ c.value-least.result
-      (omega (arith, some, ap length c.as_slice-results.ensures)) (c.index-results-0.is ∙ ap (λ xs. get_or xs 0 c.index-results-0.result) c.as_slice-results.ensures)
-      (rest_is c.args.at.now.map.results c.as_slice-results.result.now _ c.as_slice-results.ensures refl) (omega arith) c.value-least.ensures.value best least (λ y ys. refl)
+    (omega (arith, some, ap length c.as_slice-results.ensures)) (c.index-results-0.is ∙ ap (λ xs. get_or xs 0 c.index-results-0.result) c.as_slice-results.ensures)
+    (rest_is c.args.at.now.map.results c.as_slice-results.result.now _ c.as_slice-results.ensures refl) (omega arith) c.value-least.ensures.value best least (λ y ys. refl)

@@ -26,8 +26,8 @@ loop-name-preserved c =
     let pushed = (simp to_z-of_z at c.push_reserved.ensures.items) in
     record {
       values = pushed
-        ∙ (λ i. c.loop-name.invariant.values i ++ c.number.ensures i ∷ [])
-        ∙ numbers_more c.args.self.now c.args.names.now c.loop-name.name-index (omega arith);
+          ∙ (λ i. c.loop-name.invariant.values i ++ c.number.ensures i ∷ [])
+          ∙ numbers_more c.args.self.now c.args.names.now c.loop-name.name-index (omega arith);
       capacity = c.push_reserved.ensures.capacity ∙ c.loop-name.invariant.capacity;
     }
 
