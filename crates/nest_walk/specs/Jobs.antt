@@ -1,7 +1,6 @@
 -- What is left to do where a walk stands, as a list of regions and loops, each under what is known at its place.
-use Rattle.std.specs.Prelude.{ℕ, suc, ◌+◌, ℤ, pos, ◌≤ℤ◌, ◌<ℤ◌, List, [], ◌∷◌, ◌++◌, length, reverse, flat_map, vec_capacity, Option, if◌then◌else◌}
+use Rattle.std.specs.Prelude.{ℕ, ◌+◌, ℤ, pos, ◌≤ℤ◌, ◌<ℤ◌, List, [], ◌∷◌, ◌++◌, length, reverse, flat_map, vec_capacity, if◌then◌else◌}
 use Rattle.affine_ast.specs.declared.name.Name.{Name}
-use Rattle.affine_ast.specs.Names.{put}
 use Rattle.affine_ast.specs.Nest.{Nest, Nothing, Loop, Branch, Does}
 use Rattle.direct_meaning.specs.Action.{Action}
 use Rattle.direct_meaning.specs.Turns.{turns}
