@@ -49,7 +49,7 @@ abbrev pub at_counts : Counts → Env → Env
 at_counts counts e = record e { fasts = counts.fasts; tags = counts.tags }
 
 -- where a walk stands: the names of the module, what is open below with the highest first, the statements in hand, what is
--- known there, the subscripts of the last raw access, and room for the operands of a map, for subscripts and for frames
+-- known there, the subscripts beside the last action, and room for the operands of a map, for subscripts and for frames
 pub record Stand : Type 0 where
   pub names : List Name
   pub frames : List Frame
