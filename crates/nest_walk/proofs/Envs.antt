@@ -1,7 +1,7 @@
 -- What is known behind statements, and a table that is written and put back.
-use Rattle.std.proofs.Common.{◌≡◌, ℕ, zero, suc, ◌+◌, ◌≤◌, ℤ, List, [], ◌∷◌, refl, sym, ap, ◌∙◌, arith, Bool, true, false}
+use Rattle.std.proofs.Common.{◌≡◌, ℕ, ◌+◌, ℤ, List, refl, ap, ◌∙◌, arith, Bool, true, false}
 use mathlib.Core.Path.{fun_ext}
-use Rattle.std.specs.Prelude.{Option, Some, None, nat_eq, if◌then◌else◌}
+use Rattle.std.specs.Prelude.{Option, if◌then◌else◌}
 use Rattle.affine_ast.specs.declared.name.Name.{Name}
 use Rattle.affine_ast.specs.declared.types.Bound.{Bound}
 use Rattle.affine_expr.specs.declared.map.Set.{Set}
@@ -17,7 +17,7 @@ use Rattle.direct_meaning.specs.Actions.{is_fast, after_plain, after_alloc, afte
 use Rattle.walk_program.specs.declared.statement.Counts.{Counts}
 use Rattle.walk_program.specs.Counted.{CountsOf}
 use Rattle.walk_actions.specs.Looked.{with_known, with_home}
-use Rattle.nest_walk.specs.Jobs.{past, at_counts, at_numbers}
+use Rattle.nest_walk.specs.Jobs.{past, at_numbers}
 
 -- what was there is put back
 pub put_back : {A : Type 0} (f : Name → A) (n : Name) (v : A) → put (put f n v) n (f n) ≡ f

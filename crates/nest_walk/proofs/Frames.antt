@@ -1,13 +1,12 @@
 -- One frame more, one frame less, and tables that are written.
-use Rattle.std.proofs.Common.{◌≡◌, ℕ, suc, ◌+◌, ◌<◌, ◌≤◌, List, [], ◌∷◌, ◌++◌, length, reverse, take, drop, get_or, ◌-◌, refl, sym, ap, ◌∙◌, subst, arith, vec_capacity, vec_len}
+use Rattle.std.proofs.Common.{◌≡◌, ℕ, ◌<◌, List, [], ◌∷◌, ◌++◌, length, reverse, take, drop, get_or, ◌-◌, refl, sym, ap, ◌∙◌, subst, arith, vec_capacity}
 use Rattle.std.specs.Prelude.{Option, Some, None, option_to_list, IfNone, MatchOption}
 use Rattle.std.proofs.lemmas.List.{append-nil, reverse-append, length-reverse, take_all}
 use Rattle.walk_program.specs.declared.statement.Statement.{Statement}
-use Rattle.walk_actions.specs.declared.scope.Scope.{Scope}
 use Rattle.walk_actions.specs.Looked.{IsTable, env_of}
 use Rattle.nest_walk.specs.declared.frame.Frame.{Frame}
 use Rattle.nest_walk.specs.declared.position.Position.{Position}
-use Rattle.nest_walk.specs.Jobs.{Stand, stand_of}
+use Rattle.nest_walk.specs.Jobs.{stand_of}
 use Rattle.nest_walk.specs.Ready.{IsAt}
 
 -- the highest frame stands first

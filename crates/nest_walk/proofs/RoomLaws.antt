@@ -1,5 +1,5 @@
 -- Room for frames, statement by statement.
-use Rattle.std.proofs.Common.{◌≡◌, ℕ, suc, ◌+◌, ◌-◌, ◌<◌, ◌≤◌, max, List, [], ◌∷◌, length, drop, drop-cons, get_or, refl, sym, ap, ◌∙◌, arith, true, false}
+use Rattle.std.proofs.Common.{◌≡◌, ℕ, suc, ◌+◌, ◌-◌, ◌<◌, ◌≤◌, max, List, ◌∷◌, length, drop, drop-cons, get_or, sym, ap, ◌∙◌, arith}
 use Rattle.std.specs.Prelude.{Option, Some, None, ℤ, IfSome}
 use Rattle.std.proofs.lemmas.List.{drop_all}
 use Rattle.affine_expr.specs.declared.map.Set.{Set}
@@ -9,7 +9,7 @@ use Rattle.walk_program.specs.declared.statement.Counts.{Counts}
 use Rattle.walk_program.specs.declared.statement.Form as form
 use Rattle.walk_program.specs.declared.statement.Form.{Form}
 use Rattle.walk_program.specs.declared.statement.Statement.{Statement}
-use Rattle.walk_program.specs.Tree.{Tree, Nothing, put_form, tree}
+use Rattle.walk_program.specs.Tree.{Tree, put_form, tree}
 use Rattle.walk_program.proofs.Trees.{tree-nil, tree-cons, put-For, put-If, put-If-else, put-Plain}
 use Rattle.nest_walk.specs.Ready.{room_of, room, other_room}
 

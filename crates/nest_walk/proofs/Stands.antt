@@ -1,34 +1,32 @@
 -- Steps of a walk, over places where it stands.
-use Rattle.std.proofs.Common.{◌≡◌, ℕ, zero, suc, ◌+◌, ◌-◌, ◌<◌, ◌≤◌, max, ℤ, pos, ◌≤ℤ◌, ◌<ℤ◌, ◌+ℤ◌, List, [], ◌∷◌, ◌++◌, length, refl, sym, ap, ◌∙◌, subst, arith, Bool, true, false, Bor}
+use Rattle.std.proofs.Common.{◌≡◌, ℕ, ◌+◌, ◌<◌, ◌≤◌, ℤ, pos, ◌≤ℤ◌, ◌<ℤ◌, List, [], ◌∷◌, ◌++◌, length, refl, sym, ap, ◌∙◌, subst, arith, Bool, true, false, Bor}
 use Rattle.std.specs.Prelude.{Option, Some, None, flat_map, if◌then◌else◌}
-use Rattle.std.specs.Int.{int_max}
 use Rattle.std.proofs.lemmas.Int.{ints}
-use Rattle.std.proofs.lemmas.List.{append_assoc, append-nil}
+use Rattle.std.proofs.lemmas.List.{append_assoc}
 use Rattle.affine_ast.specs.declared.name.Name.{Name}
 use Rattle.affine_ast.specs.Nest as named
 use Rattle.affine_ast.specs.Nest.{Nest}
-use Rattle.direct_meaning.specs.Action.{Action}
 use Rattle.direct_meaning.specs.Turns.{turns}
 use Rattle.direct_meaning.specs.Static.{Env, knows, lower_of, upper_of, holds_at}
 use Rattle.direct_meaning.specs.Actions.{after_plain, behind, actions, action_of, fasts_in, tags_in}
-use Rattle.direct_meaning.proofs.Laws.{turns_more, turns_end, actions-Nothing, actions-Loop, actions-Branch, actions-Does}
+use Rattle.direct_meaning.proofs.Laws.{turns_end, actions-Nothing, actions-Loop, actions-Branch, actions-Does}
 use Rattle.valid_laws.specs.Safe.{CountsFit, SafeNest, SafeLoop, SafePlain, SafeCondition}
 use Rattle.walk_program.specs.declared.plain.Limit.{Limit}
 use Rattle.walk_program.specs.declared.plain.Plain.{Plain}
 use Rattle.affine_expr.specs.declared.map.Set.{Set}
 use Rattle.walk_program.specs.declared.statement.Counts.{Counts}
 use Rattle.walk_program.specs.declared.statement.Statement.{Statement}
-use Rattle.walk_program.specs.Counted.{CountsOf, Counted}
+use Rattle.walk_program.specs.Counted.{Counted}
 use Rattle.walk_program.specs.Names.{name_at}
 use Rattle.walk_program.specs.Numbered.{Numbered, LimitFits, PlainFits, Operands}
 use Rattle.walk_program.specs.Reading.{nest_of, bound_of, names_at, plain_of}
-use Rattle.walk_program.specs.Tree.{Tree, Nothing, Loop, Branch, Does, tree}
+use Rattle.walk_program.specs.Tree.{Tree, Loop, Branch, Does, tree}
 use Rattle.walk_program.proofs.Trees.{tree-nil}
 use Rattle.walk_actions.specs.declared.action.Home.{Home}
 use Rattle.walk_actions.specs.Looked.{with_known, with_home, homes_meant}
 use Rattle.nest_walk.specs.declared.frame.Frame.{Frame}
 use Rattle.nest_walk.specs.declared.frame.Frame.TheVariants as on
-use Rattle.nest_walk.specs.Jobs.{Job, Region, Turning, Stand, region_of, past, at_counts, at_numbers, job_actions, all_actions, jobs_of, jobs_at, SafeJob, SafeJobs, turn_steps, steps_in, job_steps, all_steps, steps_at}
+use Rattle.nest_walk.specs.Jobs.{Region, Turning, Stand, region_of, past, at_counts, at_numbers, all_actions, jobs_of, jobs_at, SafeJobs, turn_steps, steps_in, all_steps, steps_at}
 use Rattle.nest_walk.specs.Ready.{room_of, room, AreMade, IsMadeFrame, need, Stacked, IsSound, Skips, Opens, Acts}
 use Rattle.nest_walk.proofs.Envs.{put_twice, put_same, known_same, past_zero, past_is, behind_nothing, behind_loop, behind_branch, behind_does, known_back, home_back}
 

@@ -1,7 +1,6 @@
 -- What is left to do where a walk stands, as a list of regions and loops, each under what is known at its place.
-use Rattle.std.specs.Prelude.{ℕ, suc, ◌+◌, ℤ, pos, ◌≤ℤ◌, ◌<ℤ◌, List, [], ◌∷◌, ◌++◌, length, reverse, flat_map, vec_capacity, Option, if◌then◌else◌}
+use Rattle.std.specs.Prelude.{ℕ, ◌+◌, ℤ, pos, ◌≤ℤ◌, ◌<ℤ◌, List, [], ◌∷◌, ◌++◌, length, reverse, flat_map, vec_capacity, if◌then◌else◌}
 use Rattle.affine_ast.specs.declared.name.Name.{Name}
-use Rattle.affine_ast.specs.Names.{put}
 use Rattle.affine_ast.specs.Nest.{Nest, Nothing, Loop, Branch, Does}
 use Rattle.direct_meaning.specs.Action.{Action}
 use Rattle.direct_meaning.specs.Turns.{turns}
@@ -50,7 +49,7 @@ abbrev pub at_counts : Counts → Env → Env
 at_counts counts e = record e { fasts = counts.fasts; tags = counts.tags }
 
 -- where a walk stands: the names of the module, what is open below with the highest first, the statements in hand, what is
--- known there, the subscripts of the last raw access, and room for the operands of a map, for subscripts and for frames
+-- known there, the subscripts beside the last action, and room for the operands of a map, for subscripts and for frames
 pub record Stand : Type 0 where
   pub names : List Name
   pub frames : List Frame

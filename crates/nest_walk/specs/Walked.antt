@@ -11,7 +11,8 @@ use Rattle.walk_actions.specs.declared.action.Action.{Action}
 use Rattle.walk_actions.specs.declared.action.Operand.{Operand}
 use Rattle.walk_actions.specs.Meant.{meant, NamesIn}
 
--- the names of the module, by number; the actions that are left, in order; the subscripts of the last raw access
+-- the names of the module, by number; the actions that are left, in order; the subscripts of the last action where it is a raw
+-- access
 pub record Walked : Type 0 where
   pub names : List Name
   pub left : List meaning.Action

@@ -18,7 +18,8 @@ use std::marker::Model;
 use walk_actions::{Action, Operand};
 use walk_program::Program;
 
-/// A walk over a module. A clause sees the names of the module, the actions that are left, and the subscripts of the last raw access.
+/// A walk over a module. A clause sees the names of the module, the actions that are left, and the subscripts that stand beside the
+/// last action.
 #[derive(Drop)]
 pub struct Walk<'p> {
     position: Position<'p>,
@@ -49,7 +50,7 @@ impl<'p> Walk<'p> {
         self.position.scope.names
     }
 
-    /// The subscripts of the last raw access, in the order of its memref's dimensions.
+    /// The subscripts of the last action where it is a raw access, in the order of its memref's dimensions.
     pub fn subscripts(&self) -> &[Operand]
         ensures { result.now ≡ self.now.subscripts }
     {
@@ -88,8 +89,8 @@ impl<'p> Walk<'p> {
         })
     }
 
-    /// The next action, and nothing where none is left. It takes no memory. The subscripts of a raw access stand in the list
-    /// beside the action until the next raw access.
+    /// The next action, and nothing where none is left. It takes no memory. Where the action is a raw access, its subscripts are
+    /// those of `subscripts` then.
     #[tactic(auto, unfolding(crate::specs::Jobs::stand_of))]
     pub fn next(&mut self) -> Option<Action<'p>>
         ensures { Next result self.old self.new }

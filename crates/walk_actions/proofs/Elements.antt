@@ -1,10 +1,9 @@
 -- Places of elements, by what their memref stands for.
-use Rattle.std.proofs.Common.{◌≡◌, ℕ, ◌+◌, ◌*◌, ◌-◌, ◌<◌, ◌≤◌, ◌^◌, ℤ, pos, List, [], ◌∷◌, length, drop, map, get_or, refl, sym, ap, ◌∙◌, subst, arith, All, Bool, true, false, mul-le-mul_right}
+use Rattle.std.proofs.Common.{◌≡◌, ℕ, ◌+◌, ◌*◌, ◌<◌, ◌≤◌, ◌^◌, List, [], ◌∷◌, length, drop, map, get_or, refl, sym, ap, ◌∙◌, subst, arith, All, mul-le-mul_right}
 use Rattle.std.specs.Prelude.{Option, Some, None}
 use Rattle.std.proofs.lemmas.List.Elements.{All-head, All-tail, All-cons}
 use Rattle.affine_expr.specs.declared.expr.Expr.{Expr}
 use Rattle.affine_expr.specs.Bounded.{Evaluable}
-use Rattle.affine_expr.specs.Value.{value}
 use Rattle.affine_ast.specs.declared.name.Name.{Name}
 use Rattle.affine_ast.specs.declared.types.Access.{Access}
 use Rattle.affine_ast.specs.declared.types.MemrefType.{MemrefType}
@@ -18,7 +17,6 @@ use Rattle.walk_actions.specs.declared.scope.Scope.{Scope}
 use Rattle.walk_actions.specs.Looked.{env_of}
 use Rattle.walk_actions.specs.Values.{dims_of, syms_of, value_in, use_of, HasValue}
 use Rattle.walk_actions.proofs.Values.{result_at, results_are, room_is}
-use Rattle.walk_actions.proofs.Cells.{product_positive}
 
 each_valued : (e : Env) (at : Access) (es : List Expr) → All (Evaluable (dims_of e at) (syms_of e at)) es → All IsSmall (map (value_in e at) es) → All (HasValue e at) es
 each_valued e at [] p q = λ k d h. absurd (omega (arith, h))

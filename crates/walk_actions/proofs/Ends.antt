@@ -1,10 +1,9 @@
 -- Starts between two memrefs.
-use Rattle.std.proofs.Common.{◌≡◌, ℕ, ◌+◌, ◌<◌, ◌≤◌, ◌^◌, length, refl, sym, ap, ◌∙◌, subst, arith, Bool, true, false}
+use Rattle.std.proofs.Common.{◌≡◌, ℕ, ◌+◌, ◌<◌, ◌≤◌, ◌^◌, length, sym, ap, subst, arith, false}
 use Rattle.std.specs.Prelude.{Option, Some, None}
 use Rattle.affine_ast.specs.declared.types.MemrefType.{MemrefType}
 use Rattle.affine_ast.specs.Sizes.{product}
-use Rattle.bus_model.specs.declared.step.FaultKind.TheVariants.{Bounds}
-use Rattle.direct_meaning.specs.Action.{Home, SlowMemref, FastMemref, TagMemref, Place, Action, Faults}
+use Rattle.direct_meaning.specs.Action.{Home, SlowMemref, FastMemref, TagMemref, Place}
 use Rattle.direct_meaning.specs.Actions.{Layout, transfer_of, start_between}
 use Rattle.valid_laws.specs.Safe.{StandsFor, IsMemref}
 

@@ -1,6 +1,6 @@
 -- The last element of a transfer lies behind all others.
-use Rattle.std.proofs.Common.{◌≡◌, ℕ, zero, suc, ◌+◌, ◌*◌, ◌/◌, ◌%◌, ◌-◌, ◌<◌, ◌≤◌, ◌^◌, ℤ, pos, List, [], ◌∷◌, length, drop, map, refl, sym, ap, ◌∙◌, subst, arith, Bool, true, false, max, mul-le-mul_right, mul-le-mul_left, suc-mul, mod-lt, div-add-mod'}
-use Rattle.std.specs.Prelude.{Option, Some, None, nat_lt, ◌&&◌}
+use Rattle.std.proofs.Common.{◌≡◌, ℕ, zero, suc, ◌+◌, ◌*◌, ◌/◌, ◌%◌, ◌-◌, ◌<◌, ◌≤◌, ◌^◌, List, [], ◌∷◌, length, drop, map, refl, ap, ◌∙◌, arith, Bool, true, false, mul-le-mul_right, mul-le-mul_left, suc-mul, mod-lt, div-add-mod'}
+use Rattle.std.specs.Prelude.{nat_lt, ◌&&◌}
 use Rattle.std.specs.List.{list_all, range_with_len}
 use Rattle.std.proofs.lemmas.Bool.{ltb-true, lt-ltb, le-ltb}
 use native.Mathlib.Decide.{dec_le}
@@ -8,9 +8,9 @@ use Rattle.bus_model.specs.declared.transfer.Transfer.{Transfer}
 use Rattle.affine_ast.specs.Sizes.{product}
 use Rattle.direct_meaning.specs.Actions.{half_cells}
 use Rattle.walk_actions.proofs.Elements.{half_few}
-use Rattle.direct_meaning.specs.Transfers.{slow_place, slow_places, ends_by}
+use Rattle.direct_meaning.specs.Transfers.{slow_place, ends_by}
 use Rattle.walk_actions.specs.declared.transfers.Chunks.{Chunks}
-use Rattle.walk_actions.specs.Transfers.{layout_meant, transfer_at, AreChunks}
+use Rattle.walk_actions.specs.Transfers.{transfer_at, AreChunks}
 
 further : (x y n : ℕ) → x < y → x * n + n ≤ y * n
 further x y n h = let a : suc x * n ≤ y * n = mul-le-mul_right n h in omega (arith, suc-mul x n)

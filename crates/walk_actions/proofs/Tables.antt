@@ -1,7 +1,7 @@
 -- Tables by number: an entry that is read, and one that is written.
 use Rattle.std.proofs.Common.{◌≡◌, ℕ, zero, suc, ◌+◌, ◌<◌, List, [], ◌∷◌, ◌++◌, length, take, map, get_or, set, refl, sym, ap, ◌∙◌, subst, ℤ, arith, Bool, true, false}
 use mathlib.Core.Path.{fun_ext}
-use Rattle.std.specs.Prelude.{Option, Some, None, replicate, if◌then◌else◌}
+use Rattle.std.specs.Prelude.{Option, None, replicate, if◌then◌else◌}
 use Rattle.std.proofs.lemmas.List.{replicate-append-replicate, map_more, take_all, length-map}
 use Rattle.std.proofs.lemmas.Simd.{map-map}
 use Rattle.affine_ast.specs.declared.name.Name.{Name}
@@ -10,7 +10,7 @@ use Rattle.affine_ast.proofs.Names.{same_name-eq, same_name-refl}
 use Rattle.walk_program.specs.Names.{name_at, AreDistinct}
 use Rattle.walk_program.specs.Reading.{names_at}
 use Rattle.direct_meaning.specs.Action as meaning
-use Rattle.direct_meaning.specs.Static.{Env, number, numbers}
+use Rattle.direct_meaning.specs.Static.{number, numbers}
 use Rattle.direct_meaning.specs.Memory.{empty_env}
 use Rattle.walk_actions.specs.declared.action.Home.{Home}
 use Rattle.walk_actions.specs.declared.scope.Scope.{Scope}

@@ -1,8 +1,7 @@
 -- Values of expressions over operands by number.
-use Rattle.std.proofs.Common.{◌≡◌, ℕ, ◌+◌, ◌<◌, ◌≤◌, ℤ, pos, List, [], ◌∷◌, ◌-◌, length, take, drop, map, get_or, refl, sym, ap, ◌∙◌, subst, arith, Bool, true, All}
-use Rattle.std.specs.Prelude.{nat_lt, fold, slice_index_or}
+use Rattle.std.proofs.Common.{◌≡◌, ℕ, ◌+◌, ◌<◌, ◌≤◌, ℤ, pos, List, [], ◌∷◌, ◌-◌, length, take, drop, map, get_or, refl, sym, ap, ◌∙◌, subst, arith, Bool}
+use Rattle.std.specs.Prelude.{nat_lt, fold}
 use Rattle.std.proofs.lemmas.Bool.{ltb-true}
-use Rattle.std.proofs.lemmas.Grind.{common_steps}
 use Rattle.std.proofs.lemmas.List.{get_or-drop, length-drop, take_all, length-map, length-take, map_more, get_or-take, get_or_default}
 use Rattle.std.proofs.Math.ListN.{get_or-map}
 use Rattle.std.proofs.lemmas.List.Elements.{All-get_or}
@@ -21,7 +20,7 @@ use Rattle.valid_laws.specs.Safe.{IsSmall, SafeAccess, SafeCondition}
 use Rattle.walk_program.specs.declared.plain.Subscripts.{Subscripts}
 use Rattle.walk_program.specs.Names.{name_at}
 use Rattle.walk_program.specs.Numbered.{Operands}
-use Rattle.walk_program.specs.Reading.{names_at, access_of}
+use Rattle.walk_program.specs.Reading.{names_at}
 use Rattle.walk_actions.specs.declared.scope.Scope.{Scope}
 use Rattle.walk_actions.specs.Looked.{env_of}
 use Rattle.walk_actions.specs.Values.{dims_of, syms_of, value_in, use_of, HasValue, HasRoom}

@@ -1,5 +1,5 @@
 -- What an action by number means: the numbers of names stand for the names.
-use Rattle.std.specs.Prelude.{ℕ, ◌<◌, List, map, All, Option}
+use Rattle.std.specs.Prelude.{ℕ, ◌<◌, List, map, All}
 use Rattle.affine_ast.specs.declared.name.Name.{Name}
 use Rattle.affine_ast.specs.Sizes.{scalar_bits}
 use Rattle.direct_meaning.specs.Action as meaning

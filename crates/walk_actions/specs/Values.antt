@@ -1,5 +1,5 @@
 -- Values of maps at the numbers of their operands.
-use Rattle.std.specs.Prelude.{ℕ, ◌≤◌, ℤ, List, map, take, drop, length, All}
+use Rattle.std.specs.Prelude.{ℕ, ◌≤◌, ℤ, List, take, drop, length}
 use Rattle.affine_expr.specs.declared.expr.Expr.{Expr}
 use Rattle.affine_expr.specs.Bounded.{Evaluable}
 use Rattle.affine_expr.specs.Value.{value}
@@ -10,7 +10,6 @@ use Rattle.walk_program.specs.declared.plain.Subscripts.{Subscripts}
 use Rattle.walk_program.specs.Numbered.{Operands}
 use Rattle.walk_program.specs.Reading.{access_of}
 use Rattle.walk_actions.specs.declared.scope.Scope.{Scope}
-use Rattle.walk_actions.specs.Looked.{env_of}
 
 abbrev pub dims_of : Env → Access → List ℤ
 dims_of e at = take at.map.dims (numbers e at.operands)

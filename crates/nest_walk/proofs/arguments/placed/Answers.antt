@@ -1,5 +1,5 @@
-use Rattle.std.proofs.Common.{◌≡◌, length, take, map, sym, ap, ◌∙◌, arith}
-use Rattle.std.specs.Prelude.{fold, ℤ}
+use Rattle.std.proofs.Common.{map, ap, ◌∙◌, arith}
+use Rattle.std.specs.Prelude.{fold}
 use Rattle.std.proofs.lemmas.List.{take_all}
 use Rattle.direct_meaning.specs.Memory.{Placed, place_arg, empty_env, start_env}
 use Rattle.walk_program.specs.Reading.{argument_of}

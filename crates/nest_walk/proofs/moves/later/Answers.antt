@@ -1,6 +1,6 @@
-use Rattle.std.proofs.Common.{rules, sym, ap, ◌∙◌, arith, ◌+ℤ◌}
-use Rattle.std.proofs.lemmas.Int.{ints, to_z-of_z}
-use mir.Val.{to_z, SFits}
+use Rattle.std.proofs.Common.{rules}
+use Rattle.std.proofs.lemmas.Int.{to_z-of_z}
+use mir.Val.{SFits}
 use mir.Syntax.{w64}
 use Rattle.nest_walk.proofs.Steps.{later_turns, last_turn, later_past}
 use Rattle.nest_walk.proofs.moves.later.Goals as goal

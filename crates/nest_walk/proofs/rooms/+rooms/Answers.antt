@@ -1,6 +1,4 @@
-use Rattle.std.proofs.Common.{rules, ◌≡◌, refl, sym, ap, ◌∙◌, arith, ◌<◌, ◌+◌, max, length}
-use mir.Val.{to_z, SFits}
-use mir.Syntax.{w64}
+use Rattle.std.proofs.Common.{refl, ap, ◌∙◌, arith}
 use Rattle.std.specs.Prelude.{Some, None}
 use Rattle.walk_program.specs.declared.statement.Form as form
 use Rattle.nest_walk.specs.Ready.{room}

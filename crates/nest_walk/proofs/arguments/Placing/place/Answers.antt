@@ -1,4 +1,3 @@
-use Rattle.std.proofs.Common.{sym, ap}
 use Rattle.nest_walk.proofs.arguments.Placing.place.Goals as goal
 
 pub returns-in-Index : goal.returns-in-Index

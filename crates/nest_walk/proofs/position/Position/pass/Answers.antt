@@ -1,4 +1,4 @@
-use Rattle.std.proofs.Common.{refl, arith}
+use Rattle.std.proofs.Common.{arith}
 use Rattle.nest_walk.specs.Jobs.{stand_of}
 use Rattle.nest_walk.proofs.Frames.{fasts_at, tags_at}
 use Rattle.nest_walk.proofs.Steps.{passed_to, pass_fits}

@@ -1,14 +1,5 @@
-use Rattle.std.proofs.Common.{rules, refl, sym, ap, ◌∙◌, subst, arith, length, true, false}
-use Rattle.std.proofs.lemmas.Int.{to_z-of_z}
-use mir.Val.{to_z, SFits}
-use mir.Syntax.{w64}
-use Rattle.std.specs.Prelude.{Option, Some, None}
-use Rattle.direct_meaning.specs.Static.{Env}
-use Rattle.valid_laws.specs.Safe.{SafeBound, SafeCondition, SafePlain, CountsFit}
-use Rattle.walk_program.specs.Reading.{bound_of, names_at, plain_of}
-use Rattle.walk_actions.specs.Changed.{changed}
-use Rattle.nest_walk.specs.Jobs.{Stand, stand_of}
-use Rattle.nest_walk.proofs.Frames.{fasts_at, tags_at}
+use Rattle.std.specs.Prelude.{Some}
+use Rattle.nest_walk.specs.Jobs.{stand_of}
 use Rattle.nest_walk.proofs.Steps.{placed_new}
 use Rattle.nest_walk.proofs.position.Position.place.Goals as goal
 

@@ -1,4 +1,4 @@
-use Rattle.std.proofs.Common.{refl, sym, ap, ◌∙◌, arith, length}
+use Rattle.std.proofs.Common.{refl, arith}
 use Rattle.nest_walk.specs.declared.position.Position.{Position}
 use Rattle.nest_walk.proofs.Frames.{reframed, popped, own_frames, none_left}
 use Rattle.nest_walk.proofs.position.Position.pop.Goals as goal

@@ -1,4 +1,4 @@
-use Rattle.std.proofs.Common.{refl, sym, ap, ◌∙◌, arith, length}
+use Rattle.std.proofs.Common.{refl, arith}
 use Rattle.nest_walk.specs.declared.position.Position.{Position}
 use Rattle.nest_walk.proofs.Frames.{room_stand, reframed, pushed}
 use Rattle.nest_walk.proofs.position.Position.push.Goals as goal

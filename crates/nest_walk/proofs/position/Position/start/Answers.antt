@@ -1,10 +1,9 @@
-use Rattle.std.proofs.Common.{rules, ◌≡◌, refl, sym, ap, ◌∙◌, subst, arith, length, true, false}
+use Rattle.std.proofs.Common.{rules, sym, ap, ◌∙◌, true, false}
 use Rattle.std.proofs.lemmas.Int.{to_z-of_z}
-use mir.Val.{to_z, SFits}
+use mir.Val.{SFits}
 use mir.Syntax.{w64}
 use Rattle.walk_program.specs.declared.statement.Form as form
-use Rattle.walk_program.specs.declared.statement.Statement.{Statement}
-use Rattle.walk_program.specs.Tree.{Loop, Branch, tree}
+use Rattle.walk_program.specs.Tree.{Loop, tree}
 use Rattle.nest_walk.specs.Jobs.{stand_of}
 use Rattle.nest_walk.proofs.Steps.{loop_there, if_there, if_else_there, plain_there}
 use Rattle.nest_walk.proofs.position.Position.start.Goals as goal

@@ -1,4 +1,4 @@
-use Rattle.std.proofs.Common.{sym, ap, ◌∙◌, arith, ◌<◌, length}
+use Rattle.std.proofs.Common.{sym, ◌∙◌, arith}
 use Rattle.std.proofs.lemmas.Bool.{eqb-true, eqb-false}
 use Rattle.nest_walk.proofs.Frames.{none_in_hand, first_in_hand}
 use Rattle.nest_walk.proofs.position.Position.step.Goals as goal

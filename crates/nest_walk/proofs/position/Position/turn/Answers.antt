@@ -1,8 +1,8 @@
-use Rattle.std.proofs.Common.{rules, refl, sym, ap, ◌∙◌, arith, length, ◌<◌, ◌+◌}
+use Rattle.std.proofs.Common.{rules, refl, ap, arith, length}
 use Rattle.std.proofs.lemmas.Int.{ints, to_z-of_z}
-use mir.Val.{to_z, SFits}
+use mir.Val.{SFits}
 use mir.Syntax.{w64}
-use Rattle.nest_walk.specs.Jobs.{Stand, stand_of}
+use Rattle.nest_walk.specs.Jobs.{stand_of}
 use Rattle.nest_walk.proofs.Stands.{turn_fits}
 use Rattle.nest_walk.proofs.Steps.{turned, ended}
 use Rattle.nest_walk.proofs.position.Position.turn.Goals as goal

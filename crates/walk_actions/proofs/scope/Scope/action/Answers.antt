@@ -1,5 +1,3 @@
-use Rattle.std.proofs.Common.{length, ◌<◌}
-use Rattle.walk_program.specs.Numbered.{PlainFits}
 use Rattle.walk_actions.proofs.scope.Scope.action.Goals as goal
 
 pub returns-in-Constant-clause-inside : goal.returns-in-Constant-clause-inside

@@ -1,9 +1,8 @@
 use Rattle.affine_expr.specs.declared.expr.Expr.{Expr}
-use Rattle.std.proofs.Common.{rules, ◌≡◌, List, ℕ, ◌+◌, ◌*◌, ◌<◌, ◌≤◌, ℤ, pos, length, map, drop, get_or, refl, sym, ap, ◌∙◌, arith, subst}
-use Rattle.std.specs.Prelude.{Option, Some, None}
+use Rattle.std.proofs.Common.{rules, ◌≡◌, List, ℕ, ◌+◌, ◌<◌, ℤ, pos, length, map, get_or, sym, ap, ◌∙◌, arith}
 use Rattle.std.proofs.lemmas.Int.{to_z-of_z}
 use Rattle.std.proofs.lemmas.List.{length-map}
-use mir.Val.{to_z, SFits}
+use mir.Val.{SFits}
 use mir.Syntax.{w64}
 use Rattle.direct_meaning.specs.Static.{within}
 use Rattle.walk_actions.specs.Looked.{env_of}

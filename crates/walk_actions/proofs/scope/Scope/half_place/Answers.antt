@@ -1,11 +1,9 @@
-use Rattle.std.proofs.Common.{rules, ◌≡◌, ◌<◌, ◌≤◌, ◌-◌, ℕ, length, take, drop, map, get_or, refl, sym, ap, ◌∙◌, arith, subst, All}
-use Rattle.std.specs.Prelude.{Option, Some, None}
-use Rattle.walk_program.specs.Names.{name_at}
+use Rattle.std.proofs.Common.{rules, ◌≤◌, ℕ, map, get_or, refl, sym, ap, ◌∙◌, arith, subst, All}
 use Rattle.walk_actions.specs.Looked.{env_of}
 use Rattle.walk_actions.specs.Values.{value_in, use_of, HasValue}
 use Rattle.std.proofs.lemmas.Int.{to_z-of_z}
 use Rattle.std.proofs.lemmas.List.Elements.{All-drop}
-use mir.Val.{to_z, SFits}
+use mir.Val.{SFits}
 use mir.Syntax.{w64}
 use Rattle.affine_expr.specs.declared.expr.Expr.{Expr}
 use Rattle.direct_meaning.specs.Static.{cell_in, within}

@@ -1,16 +1,13 @@
-use Rattle.std.proofs.Common.{rules, ◌≡◌, ◌<◌, ◌+◌, ◌-◌, length, take, drop, get_or, refl, sym, ap, ◌∙◌, arith, subst, pos}
+use Rattle.std.proofs.Common.{rules, ◌-◌, length, take, drop, get_or, refl, sym, ap, ◌∙◌, arith}
 use Rattle.std.proofs.lemmas.Bool.{eqb-true, eqb-false}
 use Rattle.std.proofs.lemmas.Int.{to_z-of_z}
-use mir.Val.{to_z, SFits}
+use mir.Val.{SFits}
 use mir.Syntax.{w64}
-use Rattle.std.specs.Int.{int_min, int_max}
-use Rattle.std.specs.Prelude.{fold, map}
-use Rattle.affine_expr.specs.declared.expr.Expr.{Expr}
-use Rattle.direct_meaning.specs.Static.{least, greatest, picked, results_of}
-use Rattle.affine_ast.specs.declared.types.Pick.TheVariants.{Apply}
+use Rattle.std.specs.Int.{int_min}
+use Rattle.direct_meaning.specs.Static.{least}
 use Rattle.walk_actions.specs.Looked.{env_of}
-use Rattle.walk_actions.specs.Values.{value_in, use_of, HasValue}
-use Rattle.walk_actions.proofs.Values.{room_is, room_stays, result_at, rest_at, no_results, results_are, rest_is, best_more, best_all}
+use Rattle.walk_actions.specs.Values.{value_in, use_of}
+use Rattle.walk_actions.proofs.Values.{room_is, room_stays, result_at, rest_at, no_results, rest_is, best_more, best_all}
 use Rattle.walk_actions.proofs.scope.Scope.least.Goals as goal
 
 pub returns-then-is_empty-clause-value : goal.returns-then-is_empty-clause-value

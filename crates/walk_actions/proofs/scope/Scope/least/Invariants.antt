@@ -1,6 +1,5 @@
-use Rattle.std.proofs.Common.{◌≡◌, take, drop, map, fold, vec_capacity, List}
+use Rattle.std.proofs.Common.{◌≡◌, take, map, fold, vec_capacity}
 use Rattle.std.specs.Int.{int_min}
-use Rattle.affine_expr.specs.declared.expr.Expr.{Expr}
 use Rattle.walk_actions.specs.Looked.{env_of}
 use Rattle.walk_actions.specs.Values.{value_in, use_of}
 use Rattle.walk_actions.proofs.scope.Scope.least.Given as goal

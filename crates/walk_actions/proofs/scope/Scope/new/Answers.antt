@@ -1,4 +1,4 @@
-use Rattle.std.proofs.Common.{length, refl}
+use Rattle.std.proofs.Common.{refl}
 use Rattle.walk_actions.specs.declared.scope.Scope.{Scope}
 use Rattle.walk_actions.proofs.Tables.{empty_is}
 use Rattle.walk_actions.proofs.scope.Scope.new.Goals as goal

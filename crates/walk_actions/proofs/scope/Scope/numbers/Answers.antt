@@ -1,11 +1,9 @@
-use Rattle.std.proofs.Common.{rules, ◌≡◌, ◌<◌, ◌++◌, ◌∷◌, [], length, take, get_or, sym, ap, ◌∙◌, arith}
+use Rattle.std.proofs.Common.{rules, ◌≡◌, ◌++◌, ◌∷◌, [], length, take, sym, ap, ◌∙◌, arith}
 use Rattle.std.proofs.lemmas.List.{length-take}
 use Rattle.std.proofs.lemmas.Int.{to_z-of_z}
-use mir.Val.{to_z, SFits}
+use mir.Val.{SFits}
 use mir.Syntax.{w64}
-use Rattle.direct_meaning.specs.Static.{number}
-use Rattle.walk_program.specs.Names.{name_at}
-use Rattle.walk_actions.specs.Looked.{numbers_at, env_of}
+use Rattle.walk_actions.specs.Looked.{numbers_at}
 use Rattle.walk_actions.proofs.Tables.{numbers_none, numbers_more, numbers_all, numbers_length}
 use Rattle.walk_actions.proofs.scope.Scope.numbers.Goals as goal
 

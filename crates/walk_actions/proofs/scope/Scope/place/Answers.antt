@@ -1,8 +1,6 @@
-use Rattle.std.proofs.Common.{rules, ◌≡◌, ◌<◌, ◌≤◌, ◌-◌, ℕ, length, take, drop, map, get_or, refl, sym, ap, ◌∙◌, arith, subst, All}
-use Rattle.std.specs.Prelude.{Option, Some, None}
 use Rattle.walk_program.specs.Names.{name_at}
 use Rattle.walk_actions.specs.Looked.{env_of}
-use Rattle.walk_actions.specs.Values.{value_in, use_of, HasValue}
+use Rattle.walk_actions.specs.Values.{use_of}
 use Rattle.walk_actions.proofs.Elements.{slow_place, slow_outside, tags_place}
 use Rattle.walk_actions.proofs.scope.Scope.place.Goals as goal
 

@@ -1,8 +1,6 @@
-use Rattle.std.proofs.Common.{rules, ◌≡◌, ◌<◌, ◌≤◌, ◌-◌, ℕ, length, take, drop, map, get_or, refl, sym, ap, ◌∙◌, arith, subst, All}
-use Rattle.std.specs.Prelude.{Option, Some, None}
 use Rattle.walk_program.specs.Names.{name_at}
 use Rattle.walk_actions.specs.Looked.{env_of}
-use Rattle.walk_actions.specs.Values.{value_in, use_of, HasValue}
+use Rattle.walk_actions.specs.Values.{use_of}
 use Rattle.walk_actions.proofs.Elements.{tag_there, tag_outside, tag_slow, tag_fast}
 use Rattle.walk_actions.proofs.scope.Scope.tag.Goals as goal
 
