@@ -49,11 +49,7 @@ fn next_parameter(
 }
 
 #[tactic(auto, using(affine_grammar::proofs::Steps::parameter_more, affine_grammar::proofs::Steps::parameter_done, affine_grammar::proofs::Steps::parameter_shorter))]
-fn parameter_names(
-    alloc: Global,
-    tokens: &mut Tokens<'_>,
-    dims: &Names,
-) -> Result<Names, Refusal>
+fn parameter_names(alloc: Global, tokens: &mut Tokens<'_>, dims: &Names) -> Result<Names, Refusal>
     ensures { Takes result (bind (spec.parameter_name dims.now []) (many (tok.at_sign 44) (spec.next_parameter dims.now)) tokens.old) tokens.new }
 {
     let mut names = parameter_name(alloc, tokens, dims, Names::new(alloc))?;
@@ -83,11 +79,7 @@ fn parameter_list(
 }
 
 #[tactic(auto, unfolding(affine_grammar::specs::Reading::symbol_list))]
-fn symbol_list(
-    alloc: Global,
-    tokens: &mut Tokens<'_>,
-    dims: &Names,
-) -> Result<Names, Refusal>
+fn symbol_list(alloc: Global, tokens: &mut Tokens<'_>, dims: &Names) -> Result<Names, Refusal>
     ensures { Takes result (optional (tok.at_sign 91) (spec.symbol_list dims.now) [] tokens.old) tokens.new }
 {
     if !tokens.next_is(b'[') {
@@ -408,15 +400,14 @@ pub fn use_of(
 }
 
 /// The map of subscripts: its dimensions and symbols are the values that have stood.
-fn access_of(
-    alloc: Global,
-    results: Items<Expr>,
-    state: State,
-) -> Result<(Access, u32), Refusal>
+fn access_of(alloc: Global, results: Items<Expr>, state: State) -> Result<(Access, u32), Refusal>
     ensures { MatchResult result (λ read. read ≡ access_with (results, state)) (λ refusal. refusal ≡ Memory) }
 {
     let State {
-        total, dims, syms, ..
+        total,
+        dims,
+        syms,
+        ..
     } = state;
     let map = Map {
         dims: numbered(dims.len())?,
