@@ -3,9 +3,8 @@ use Rattle.valid_laws.specs.Safe.{SafePlain, CountsFit}
 use Rattle.walk_program.specs.Reading.{plain_of}
 use Rattle.walk_actions.specs.Changed.{changed}
 use Rattle.nest_walk.specs.Jobs.{Stand, stand_of}
-use Rattle.direct_meaning.specs.Actions.{action_of, after_plain}
+use Rattle.direct_meaning.specs.Actions.{after_plain}
 use Rattle.walk_actions.specs.Meant.{meant}
-use Rattle.nest_walk.specs.Ready.{IsSound}
 use Rattle.nest_walk.proofs.Stands.{plain_fits}
 use Rattle.nest_walk.proofs.Steps.{acted_at, still_sound}
 use Rattle.nest_walk.proofs.position.Position.act.Goals as goal
@@ -30,7 +29,7 @@ pub returns-clause-acted : goal.returns-clause-acted
 returns-clause-acted c =
     let uses = ap (λ (m : Stand). m.subscripts) c.take.ensures.stand ∙ ap (λ (m : Stand). m.subscripts) c.change.ensures.at.stand ∙ ap (λ (m : Stand). m.subscripts) c.change_of-change.ensures.at.stand in
     acted_at (stand_of c.args.self.now) (stand_of c.change_of-change.new.self) c.change.new.self c.take.new.self c.requires.there.0 c.args.plain.now c.args.rest _ _ c.requires.ready.sound c.requires.there.1
-      (c.change_of-change.ensures.at.stand ∙ c.action-action.ensures.at.stand ∙ ap {B = Stand} (λ uses. record (stand_of c.args.self.now) { subscripts = uses }) (sym (ap (λ (m : Stand). m.subscripts) c.change_of-change.ensures.at.stand)))
-      (ap (λ (m : Stand). changed m.names c.change_of-change.result m.env) c.change_of-change.ensures.at.stand ∙ c.change_of-change.ensures.value ∙ ap (λ (m : Stand). after_plain (plain_of m.names c.args.plain.now) m.env) c.action-action.ensures.at.stand)
-      c.change.ensures c.take.ensures.stand c.take.ensures.table
-      ((λ i. meant (stand_of c.args.self.now).names (uses i) c.action-action.result) ∙ c.action-action.ensures.value)
+    (c.change_of-change.ensures.at.stand ∙ c.action-action.ensures.at.stand ∙ ap {B = Stand} (λ uses. record (stand_of c.args.self.now) { subscripts = uses }) (sym (ap (λ (m : Stand). m.subscripts) c.change_of-change.ensures.at.stand)))
+    (ap (λ (m : Stand). changed m.names c.change_of-change.result m.env) c.change_of-change.ensures.at.stand ∙ c.change_of-change.ensures.value ∙ ap (λ (m : Stand). after_plain (plain_of m.names c.args.plain.now) m.env) c.action-action.ensures.at.stand)
+    c.change.ensures c.take.ensures.stand c.take.ensures.table
+    ((λ i. meant (stand_of c.args.self.now).names (uses i) c.action-action.result) ∙ c.action-action.ensures.value)
