@@ -288,8 +288,8 @@ impl<'p> Position<'p> {
         ensures acted { Acted self.new (stand_of self.old) (meant (stand_of self.old).names (stand_of self.new).subscripts result) }
         ensures inside { NamesIn (length (stand_of self.old).names) (stand_of self.new).subscripts result }
     {
-        let change = self.change_of(plain);
         let action = self.action(plain);
+        let change = self.change_of(plain);
         self.change(change);
         self.take(rest);
         action
