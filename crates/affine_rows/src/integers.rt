@@ -23,7 +23,13 @@ fn integers_past_128_bits(rt: HostRuntime) -> Result<(), Fail> {
     let product = third.product(alloc, &three)?;
     assert!(rt; are_equal(alloc, &product.sum(alloc, &rest)?, &square)?);
     // down, below 0 too
-    assert!(rt; are_equal(alloc, &opposite.floor_remainder(alloc, &three)?, &Integer::of(2))?);
+    assert!(rt;
+        are_equal(
+            alloc,
+            &opposite.floor_remainder(alloc, &three)?,
+            &Integer::of(2)
+        )?
+    );
     assert!(rt; !are_equal(alloc, &square, &greatest)?);
     Ok(())
 }
