@@ -23,6 +23,6 @@ abbrev pub ValidIsEvaluable : Type 0
 ValidIsEvaluable = (m : Module) → IsValid m → (memory : Image) → Fits m memory → EvaluableNest (nest m.body) (start_env m.args memory.symbols)
 
 -- from every memory that fits, every number that a walk of its text needs fits a machine word, and each memref name stands for a
--- memref of the written type
+-- memref of the written space and rank
 abbrev pub ValidIsSafe : Type 0
 ValidIsSafe = (m : Module) → IsValid m → (memory : Image) → Fits m memory → SafeNest (nest m.body) (start_env m.args memory.symbols)

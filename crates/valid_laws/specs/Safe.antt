@@ -197,7 +197,7 @@ SafePlain e (Wait t at n ty) = SafePlace e t at ty × (ty.space ≡ 2) × IsCoun
 SafePlain e Return = Unit {0}
 
 -- every statement of the text, in each turn of the loops round it: its expressions may be evaluated, the numbers that it uses
--- and makes known fit, each memref name stands for a memref of the written type, and the numbers of slow places, of fast memrefs
+-- and makes known fit, each memref name stands for a memref of the written space and rank, and the numbers of slow places, of fast memrefs
 -- and of tags keep within the limits of a module
 abbrev pub SafeNest : Nest → Env → Type 0
 SafeNest Nothing e = CountsFit e

@@ -25,7 +25,7 @@ pub fn valid_is_evaluable()
 {}
 
 /// From every memory that fits a valid module, wherever the list of its actions comes: the bounds of loops and the values that maps
-/// give stay within 2^62, operands fit their types, each memref name stands for a memref of the written type, and the numbers of
+/// give stay within 2^62, operands fit their types, each memref name stands for a memref of the written space and rank, and the numbers of
 /// slow places, of fast memrefs and of tags keep within the limits of a module. So a walk of the text over machine words needs no
 /// number that they can't hold.
 pub fn valid_is_safe()
