@@ -94,7 +94,7 @@ impl Model for Combination {
 
 /// The two ways to join forms.
 #[derive(Clone, Copy)]
-enum Join {
+pub enum Join {
     Sum,
     Difference,
 }
