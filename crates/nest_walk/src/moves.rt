@@ -213,7 +213,10 @@ impl<'p> Position<'p> {
             self.take(first);
         } else {
             let before = self.counts();
-            self.count(before.fasts + first_inside.fasts, before.tags + first_inside.tags);
+            self.count(
+                before.fasts + first_inside.fasts,
+                before.tags + first_inside.tags,
+            );
             self.push(Frame::Rest {
                 statements: rest,
                 passed: NONE,

@@ -34,8 +34,12 @@ pub struct Position<'p> {
 impl<'p> Model for Position<'p> {
     ghost use Rattle.std.specs.Prelude.{reverse, vec_capacity};
     ghost use Rattle.nest_walk.specs.Standing.{Standing};
+    ghost use Rattle.std.specs.Coded.{codes};
+    ghost use Rattle.walk_program.specs.contracts.statement.Form as form;
 
     ghost Value = { Standing };
+
+    ghost coded = { Prim.hlevel (codes, form.the_row.coded) };
 
     ghost view = { λ p. record {
       frames = reverse p.frames.items;

@@ -5,8 +5,8 @@ use Rattle.nest_walk.proofs.Frames.{under_stand}
 use Rattle.nest_walk.proofs.Steps.{known_again, known_inside}
 use Rattle.nest_walk.proofs.position.Position.know_again.Goals as goal
 
-pub know-requires-clause-name : goal.know-requires-clause-name
-know-requires-clause-name c = known_inside (stand_of c.args.self.now) c.args.name c.args.before c.requires.ready
+pub know-requires : goal.know-requires
+know-requires c = record { name = known_inside (stand_of c.args.self.now) c.args.name c.args.before c.requires.ready }
 
 pub returns : goal.returns
 returns c =

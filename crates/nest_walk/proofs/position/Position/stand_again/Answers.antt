@@ -5,8 +5,8 @@ use Rattle.nest_walk.proofs.Frames.{under_stand}
 use Rattle.nest_walk.proofs.Steps.{placed_again, placed_inside}
 use Rattle.nest_walk.proofs.position.Position.stand_again.Goals as goal
 
-pub stand-requires-clause-name : goal.stand-requires-clause-name
-stand-requires-clause-name c = placed_inside (stand_of c.args.self.now) c.args.name c.args.before c.requires.ready
+pub stand-requires : goal.stand-requires
+stand-requires c = record { name = placed_inside (stand_of c.args.self.now) c.args.name c.args.before c.requires.ready }
 
 pub returns : goal.returns
 returns c =

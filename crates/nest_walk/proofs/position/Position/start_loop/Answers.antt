@@ -16,15 +16,15 @@ lower-at-requires-clause-safe c = (loop_fits (stand_of c.args.self.now) c.requir
 pub upper-upper-requires-clause-safe : goal.upper-upper-requires-clause-safe
 upper-upper-requires-clause-safe c = subst (λ (m : Stand). SafeBound m.env (bound_of m.names c.args.upper.now)) (sym (ap stand_of c.lower-at.ensures.at)) (loop_fits (stand_of c.args.self.now) c.requires.there.0 c.args.var c.args.lower.now c.args.upper.now c.args.step c.args.inside c.args.body c.args.rest c.requires.ready c.requires.there.1).3.upper
 
-pub push-requires-clause-room : goal.push-requires-clause-room
-push-requires-clause-room c =
+pub push-requires : goal.push-requires
+push-requires c =
     let same = c.upper-upper.ensures.at ∙ c.lower-at.ensures.at in
-    omega (arith, (loop_fits (stand_of c.args.self.now) c.requires.there.0 c.args.var c.args.lower.now c.args.upper.now c.args.step c.args.inside c.args.body c.args.rest c.requires.ready c.requires.there.1).4, ap (λ (m : Standing). length m.frames) same, ap (λ (m : Standing). m.capacity) same)
+    record { room = omega (arith, (loop_fits (stand_of c.args.self.now) c.requires.there.0 c.args.var c.args.lower.now c.args.upper.now c.args.step c.args.inside c.args.body c.args.rest c.requires.ready c.requires.there.1).4, ap (λ (m : Standing). length m.frames) same, ap (λ (m : Standing). m.capacity) same) }
 
-pub push-requires-2-clause-room : goal.push-requires-2-clause-room
-push-requires-2-clause-room c =
+pub push-requires-2 : goal.push-requires-2
+push-requires-2 c =
     let same = c.upper-upper.ensures.at ∙ c.lower-at.ensures.at in
-    omega (arith, (loop_fits (stand_of c.args.self.now) c.requires.there.0 c.args.var c.args.lower.now c.args.upper.now c.args.step c.args.inside c.args.body c.args.rest c.requires.ready c.requires.there.1).4, ap (λ (m : Standing). length m.frames) same, ap (λ (m : Standing). m.capacity) same, ap (λ (m : Standing). length m.frames) c.push.ensures, ap (λ (m : Standing). m.capacity) c.push.ensures)
+    record { room = omega (arith, (loop_fits (stand_of c.args.self.now) c.requires.there.0 c.args.var c.args.lower.now c.args.upper.now c.args.step c.args.inside c.args.body c.args.rest c.requires.ready c.requires.there.1).4, ap (λ (m : Standing). length m.frames) same, ap (λ (m : Standing). m.capacity) same, ap (λ (m : Standing). length m.frames) c.push.ensures, ap (λ (m : Standing). m.capacity) c.push.ensures) }
 
 pub returns : goal.returns
 returns c =

@@ -14,13 +14,13 @@ later-next-requires-clause-step c =
     let s : SFits w64 c.args.step = search rules in
     simp to_z-of_z (turn_fits _ c.args.var c.args.before c.args.at c.args.upper c.args.step c.args.start c.args.inside c.args.body c.args.self.now.frames c.requires.ready c.requires.empty refl).1
 
-pub know-requires-clause-name : goal.know-requires-clause-name
-know-requires-clause-name c =
+pub know-requires : goal.know-requires
+know-requires c =
     let fits = turn_fits _ c.args.var c.args.before c.args.at c.args.upper c.args.step c.args.start c.args.inside c.args.body c.args.self.now.frames c.requires.ready c.requires.empty refl in
-    omega (arith, fits.0, ap (λ (m : Standing). length m.scope.names) c.push.ensures)
+    record { name = omega (arith, fits.0, ap (λ (m : Standing). length m.scope.names) c.push.ensures) }
 
-pub know-requires-else-at-upper-clause-name : goal.know-requires-else-at-upper-clause-name
-know-requires-else-at-upper-clause-name c = (turn_fits _ c.args.var c.args.before c.args.at c.args.upper c.args.step c.args.start c.args.inside c.args.body c.args.self.now.frames c.requires.ready c.requires.empty refl).0
+pub know-requires-else-at-upper : goal.know-requires-else-at-upper
+know-requires-else-at-upper c = record { name = (turn_fits _ c.args.var c.args.before c.args.at c.args.upper c.args.step c.args.start c.args.inside c.args.body c.args.self.now.frames c.requires.ready c.requires.empty refl).0 }
 
 pub overflow_add-start : goal.overflow_add-start
 overflow_add-start c = omega (arith, (turn_fits _ c.args.var c.args.before c.args.at c.args.upper c.args.step c.args.start c.args.inside c.args.body c.args.self.now.frames c.requires.ready c.requires.empty refl).2)
@@ -35,8 +35,8 @@ returns-then-at-upper c =
     let s : SFits w64 c.args.step = search rules in
     let n : SFits w64 c.later-next.result = search rules in
     turned (stand_of c.args.self.now) _ _ _ _ c.args.var c.args.before c.args.at c.later-next.result c.args.upper c.args.step c.args.start c.args.inside c.args.body c.requires.ready c.requires.empty (omega (arith, ints, c.if-at-upper.true))
-          (simp to_z-of_z at c.later-next.ensures.later) (simp to_z-of_z at c.later-next.ensures.turns)
-          (ap stand_of (simp to_z-of_z at c.push.ensures)) (simp to_z-of_z at (under_stand _ _ _ c.know.ensures.at)) (ap stand_of c.count.ensures) (ap stand_of c.take.ensures)
+    (simp to_z-of_z at c.later-next.ensures.later) (simp to_z-of_z at c.later-next.ensures.turns)
+    (ap stand_of (simp to_z-of_z at c.push.ensures)) (simp to_z-of_z at (under_stand _ _ _ c.know.ensures.at)) (ap stand_of c.count.ensures) (ap stand_of c.take.ensures)
 
 pub returns-else-at-upper : goal.returns-else-at-upper
 returns-else-at-upper c =
