@@ -1,16 +1,16 @@
 // The outstanding transfers, and which of them wait for an engine.
-ghost use Rattle.std.specs.Prelude.{◌≡◌, ℕ, ◌<◌, ◌≤◌, ◌^◌, length, vec_capacity, slice_get, None, nat_eq, nat_lt, not};
+ghost use Rattle.std.specs.Prelude.{◌≡◌, ℕ, ◌<◌, ◌≤◌, ◌^◌, ◌∷◌, [], ◌++◌, length, vec_capacity, slice_get, None, nat_eq, nat_lt, not};
 ghost use Rattle.std.specs.List.{filter};
 ghost use Rattle.std.specs.Bool.{MatchBool};
-ghost use Rattle.bus_model.specs.Engines.{with_flight, with_engine};
-ghost use Rattle.order_meaning.specs.Machine.{held_by};
+ghost use Rattle.bus_model.specs.Engines.{flight_of, with_flight, with_engine};
+ghost use Rattle.order_meaning.specs.Machine.{held_by, sent};
 ghost use Rattle.order_meaning.specs.Listed.{Has, IsAscending, engine_steps, steps_from};
-ghost use Rattle.order_engines.specs.Flying.{flights_of, MayTake, MayFinish, MayMove, Changed, IsMoved};
+ghost use Rattle.order_engines.specs.Flying.{flights_of, FliesWithin, MayTake, MayFinish, MayMove, Changed, IsMoved};
 ghost use Rattle.order_engines.specs.Waiting.{IsFlights, IsPut, IsSame};
 
 use crate::engines::{finish, held_by, move_next, take};
 use crate::flying::Flying;
-use bus_model::Step;
+use bus_model::{Step, Transfer};
 
 /// The outstanding transfers in the order of their starts, and the tags of those that an engine can take, ascending.
 #[derive(Drop)]
@@ -143,5 +143,25 @@ impl Flights {
         ensures kept { IsFlights (length slow.new) self.new }
     {
         move_next(slow, self.flying.as_mut_slice(), engines, engine)
+    }
+
+    /// A transfer is outstanding from here on, behind the others, with its half's cells. Nothing of it is moved, and no engine holds it.
+    pub fn start(&mut self, transfer: Transfer, cells: Vec<i64>)
+        requires kept { (slow : ℕ) × IsFlights slow self.old }
+        requires idle { flight_of (flights_of self.old.flying.items) transfer.tag ≡ None }
+        requires room { length self.old.flying.items < vec_capacity self.old.flying }
+        requires waiting_room { length self.old.waiting.items < vec_capacity self.old.waiting }
+        ensures flights { flights_of self.new.flying.items ≡ flights_of self.old.flying.items ++ sent transfer cells.items ∷ [] }
+        ensures kept { (slow : ℕ) → FliesWithin slow (sent transfer cells.items) → IsFlights slow self.old → IsFlights slow self.new }
+        ensures room { vec_capacity self.new.flying ≡ vec_capacity self.old.flying }
+        ensures waiting_room { vec_capacity self.new.waiting ≡ vec_capacity self.old.waiting }
+    {
+        put_in(&mut self.waiting, transfer.tag);
+        self.flying.push_reserved(Flying {
+            transfer,
+            cells,
+            moved: 0,
+            engine: None,
+        });
     }
 }
