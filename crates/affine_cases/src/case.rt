@@ -68,7 +68,9 @@ fn optional<'a>(bytes: &'a [u8], word: &str) -> (Option<&'a str>, &'a [u8]) {
 /// The text under a line with this word, up to the line feed before the next heading or the end.
 fn text_under<'a>(bytes: &'a [u8], word: &str) -> Option<(&'a [u8], &'a [u8])> {
     let (_, rest) = field(bytes, word)?;
-    let heading = rest.windows(6).position(|window| window == b"\n#### ".as_slice());
+    let heading = rest
+        .windows(6)
+        .position(|window| window == b"\n#### ".as_slice());
     let end = heading.unwrap_or(rest.len().saturating_sub(1));
     if end < rest.len() {
         Some((&rest[..end], &rest[end + 1..]))
