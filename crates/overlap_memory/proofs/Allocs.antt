@@ -1,6 +1,6 @@
 -- Fast memrefs that are allocated and released.
-use Rattle.std.proofs.Common.{◌≡◌, ◌≢◌, ℕ, ℤ, zero, suc, ◌+◌, ◌-◌, ◌<◌, ◌≤◌, subst, Bool, true, false, List, [], ◌∷◌, length, replicate, set, sym, refl, ap, ◌∙◌, eq-eqb, arith, All, get_or, length-set, get_or-set_other, get_or-set_same}
-use Rattle.std.specs.Prelude.{vec_capacity, Option, Some, None, Ok, Err, nat_eq, nat_le, slice_get, if◌then◌else◌}
+use Rattle.std.proofs.Common.{◌≡◌, ◌≢◌, ℕ, ℤ, zero, suc, ◌+◌, ◌-◌, ◌<◌, ◌≤◌, subst, Bool, true, false, List, length, replicate, set, sym, refl, ap, ◌∙◌, eq-eqb, arith, All, get_or, length-set, get_or-set_other, get_or-set_same}
+use Rattle.std.specs.Prelude.{vec_capacity, Option, Some, None, Ok, Err, nat_eq, nat_le, slice_get}
 use Rattle.std.proofs.lemmas.Option.{slice_get-get_or}
 use native.Mathlib.Decide.{ℕ_discrete}
 use Rattle.int_ops.specs.Wrapped.{wrapped}
@@ -19,7 +19,7 @@ use Rattle.prompt_meaning.specs.Device.{Device, record_of, has_away, put_halves,
 use Rattle.prompt_meaning.specs.Prompt.{prompt_alloc, refused}
 use Rattle.order_meaning.specs.Orderly.{with_room}
 use Rattle.overlap_memory.specs.declared.memory.Memory.{Memory}
-use Rattle.overlap_memory.specs.Tied.{Tied, FastShape, IsAllocated, FollowsTo, with_allocated, with_released, no_halves, half_at, memref_at, tag_of, with_list, lists_of, how_many}
+use Rattle.overlap_memory.specs.Tied.{Tied, FastShape, IsAllocated, FollowsTo, with_allocated, with_released, no_halves, half_at, memref_at, tag_of, lists_of, how_many}
 use Rattle.overlap_memory.proofs.Lists.{both_ways, if_true, if_false, none_some, started_in, started_by, record_of_started, any_none}
 use Rattle.overlap_memory.proofs.Slow.{goes_on}
 

@@ -1,8 +1,7 @@
 -- The tie is met where a run begins: nothing is started, and each half is here.
-use Rattle.std.proofs.Common.{◌≡◌, ℕ, zero, suc, ℤ, pos, ◌<◌, ◌≤◌, ◌^◌, List, [], ◌∷◌, length, replicate, sym, refl, ap, ◌∙◌, subst, arith, All}
-use Rattle.std.specs.Prelude.{vec_capacity, Option, Some, None}
+use Rattle.std.proofs.Common.{◌≡◌, ℕ, zero, suc, ℤ, ◌<◌, ◌≤◌, ◌^◌, List, [], length, replicate, sym, refl, ap, ◌∙◌, subst, arith, All}
+use Rattle.std.specs.Prelude.{vec_capacity, Option, None}
 use Rattle.bus_model.specs.declared.transfer.Started.{Started}
-use Rattle.fast_halves.specs.Shape.{HalfShape, here, away}
 use Rattle.tag_table.specs.Rule.{started_at}
 use Rattle.tag_table.specs.Shapes.{BusShape, ComputeShape, IsIdle, fresh_compute}
 use Rattle.bus_model.specs.Engines.{started_of}

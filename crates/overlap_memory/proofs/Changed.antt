@@ -1,10 +1,10 @@
 -- A half of a list of memrefs' halves, changed.
-use Rattle.std.proofs.Common.{◌≡◌, ◌≢◌, ℕ, ℤ, zero, suc, ◌<◌, List, [], ◌∷◌, length, set, sym, refl, ap, ◌∙◌, arith, get_or-set_other, get_or-set_same, length-set}
-use Rattle.std.specs.Prelude.{Option, Some, None, slice_get, slice_index_or}
+use Rattle.std.proofs.Common.{◌≡◌, ◌≢◌, ℕ, zero, suc, ◌<◌, List, [], ◌∷◌, length, set, sym, refl, ap, ◌∙◌, arith, get_or-set_other, get_or-set_same, length-set}
+use Rattle.std.specs.Prelude.{Some, slice_get, slice_index_or}
 use Rattle.std.proofs.lemmas.List.{set-get_or}
 use native.Mathlib.Decide.{ℕ_discrete}
-use Rattle.fast_halves.specs.Shape.{HalfShape, HalvesShape, here, away}
-use Rattle.overlap_memory.specs.Tied.{no_halves, memref_at, half_at, tag_of}
+use Rattle.fast_halves.specs.Shape.{HalfShape, HalvesShape}
+use Rattle.overlap_memory.specs.Tied.{no_halves, memref_at, half_at}
 
 pub get_set_same : {X : Type 0} (xs : List X) (k : ℕ) (x : X) → k < length xs → slice_get (set xs k x) k ≡ Some x
 get_set_same [] k x lt = absurd (omega arith)

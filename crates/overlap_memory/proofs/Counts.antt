@@ -1,5 +1,5 @@
 -- How many tags are started, and how many records there are.
-use Rattle.std.proofs.Common.{◌≡◌, ◌≢◌, ℕ, zero, suc, ◌+◌, ◌<◌, Bool, true, false, List, [], ◌∷◌, ◌++◌, length, set, sym, refl, ap, ◌∙◌, arith, eq-eqb, ne_eqb, All}
+use Rattle.std.proofs.Common.{◌≡◌, ℕ, zero, suc, ◌+◌, ◌<◌, Bool, true, false, List, [], ◌∷◌, length, set, sym, refl, ap, ◌∙◌, arith, eq-eqb, ne_eqb, All}
 use Rattle.std.specs.Prelude.{Option, Some, None, nat_eq, if◌then◌else◌}
 use Rattle.std.proofs.lemmas.List.Elements.{All-cons}
 use native.Mathlib.Decide.{ℕ_discrete}
@@ -8,7 +8,7 @@ use Rattle.bus_model.specs.declared.transfer.Started.{Started}
 use Rattle.tag_table.specs.Rule.{started_at}
 use Rattle.prompt_meaning.specs.Device.{record_of, without, is_started}
 use Rattle.overlap_memory.specs.Tied.{how_many, one_if_started}
-use Rattle.overlap_memory.proofs.Lists.{if_true, if_false, none_some, same_some}
+use Rattle.overlap_memory.proofs.Lists.{if_true, if_false}
 
 -- a started tag is one of the tags
 pub started_below : (tags : List (Option Started)) (tag : ℕ) (st : Started) → started_at tags tag ≡ Some st → tag < length tags

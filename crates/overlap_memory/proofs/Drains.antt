@@ -1,13 +1,12 @@
 -- The transfers that are taken back one after the other.
-use Rattle.std.proofs.Common.{◌≡◌, ℕ, zero, suc, ◌+◌, ◌<◌, List, [], ◌∷◌, length, get_or, true, sym, refl, ap, ◌∙◌, subst, arith, eq-eqb}
-use Rattle.std.specs.Prelude.{Option, Some, None, nat_eq}
+use Rattle.std.proofs.Common.{◌≡◌, ℕ, ◌<◌, List, [], ◌∷◌, length, get_or, sym, refl, ap, ◌∙◌, subst, arith, eq-eqb}
+use Rattle.std.specs.Prelude.{Option, Some, nat_eq}
 use Rattle.std.specs.List.{remove}
 use Rattle.bus_model.specs.declared.transfer.Transfer.{Transfer}
-use Rattle.tag_table.specs.Rule.{started_at}
 use Rattle.tag_table.specs.Shapes.{BusShape, NoneStarted}
 use Rattle.prompt_meaning.specs.Device.{Device, record_of, without}
 use Rattle.bus_model.specs.declared.step.FaultKind.TheVariants.{Shape}
-use Rattle.direct_meaning.specs.Direct.{Outcome, End, Fault}
+use Rattle.direct_meaning.specs.Direct.{End, Fault}
 use Rattle.prompt_meaning.specs.Prompt.{wait_on}
 use Rattle.overlap_memory.specs.declared.memory.Memory.{Memory}
 use Rattle.overlap_memory.specs.Tied.{Tied, FastShape}

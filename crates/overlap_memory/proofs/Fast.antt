@@ -1,14 +1,12 @@
 -- Loads and stores of cells of halves.
-use Rattle.std.proofs.Common.{◌≡◌, ◌≢◌, ℕ, ℤ, pos, ◌<◌, ◌≤◌, subst, Bool, true, false, List, length, set, sym, refl, ap, ◌∙◌, eq-eqb, length-set, arith}
+use Rattle.std.proofs.Common.{◌≡◌, ℕ, ℤ, pos, ◌<◌, ◌≤◌, subst, Bool, true, false, List, length, set, sym, refl, ap, ◌∙◌, eq-eqb, arith}
 use Rattle.std.specs.Prelude.{vec_capacity, ◌&&◌, Option, Some, None, Ok, Err, nat_eq, slice_get, slice_index_or}
 use Rattle.std.proofs.lemmas.Bool.{and_parts}
 use Rattle.std.proofs.lemmas.Option.{get_or_from_slice_get}
 use native.Mathlib.Decide.{ℕ_discrete}
-use Rattle.bus_model.specs.declared.step.FaultKind.{FaultKind}
 use Rattle.bus_model.specs.declared.step.FaultKind.TheVariants.{Touched}
 use Rattle.bus_model.specs.declared.transfer.Transfer.{Transfer}
-use Rattle.bus_model.specs.declared.transfer.Started.{Started}
-use Rattle.fast_halves.specs.Shape.{HalfShape, HalvesShape, here, away}
+use Rattle.fast_halves.specs.Shape.{here, away}
 use Rattle.bus_model.specs.Engines.{started_of}
 use Rattle.bus_model.specs.Ledger.{HalvesAway}
 use Rattle.tag_table.specs.Rule.{started_at}
@@ -16,12 +14,12 @@ use Rattle.tag_table.specs.Shapes.{BusShape, ComputeShape, IsIdle}
 use Rattle.prompt_meaning.proofs.Laws.{half_same as prompt_half_same, half_other as prompt_half_other}
 use Rattle.overlap_memory.proofs.Changed.{changed, changed_length, half_same, half_other, cells_same, halves_same}
 use Rattle.direct_meaning.specs.Action.{Fast}
-use Rattle.direct_meaning.specs.Direct.{Outcome, End, Fault, keep}
+use Rattle.direct_meaning.specs.Direct.{End, keep}
 use Rattle.prompt_meaning.specs.Device.{Device, is_away, record_of, put_half}
-use Rattle.prompt_meaning.specs.Prompt.{refused, prompt_store}
+use Rattle.prompt_meaning.specs.Prompt.{prompt_store}
 use Rattle.overlap_memory.specs.declared.memory.Memory.{Memory}
 use Rattle.overlap_memory.specs.Tied.{Tied, FastShape, IsAllocated, Follows, Gives, half_at, memref_at, tag_of, with_list, lists_of, how_many}
-use Rattle.overlap_memory.proofs.Lists.{both_ways, none_some, same_some, record_of_started, started_of_record, any_none, any_found, started_in, started_by}
+use Rattle.overlap_memory.proofs.Lists.{both_ways, none_some, record_of_started, started_of_record, any_none, any_found, started_in, started_by}
 use Rattle.overlap_memory.proofs.Slow.{goes_on, stops}
 
 both_true : (a b : Bool) → a ≡ true → b ≡ true → (a && b) ≡ true

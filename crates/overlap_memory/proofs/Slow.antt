@@ -1,11 +1,10 @@
 -- Loads and stores of slow places.
-use Rattle.std.proofs.Common.{◌≡◌, ◌≢◌, ℕ, ℤ, pos, ◌<◌, Bool, true, false, List, length, set, sym, refl, ap, ◌∙◌, length-set}
-use Rattle.std.specs.Prelude.{Option, Some, None, Ok, Err, if◌then◌else◌}
+use Rattle.std.proofs.Common.{◌≡◌, ℕ, ℤ, Bool, true, false, set, sym, ap, ◌∙◌, length-set}
+use Rattle.std.specs.Prelude.{Some, Ok, Err, if◌then◌else◌}
 use Rattle.bus_model.specs.declared.step.FaultKind.{FaultKind}
 use Rattle.bus_model.specs.declared.step.FaultKind.TheVariants.{Race}
-use Rattle.bus_model.specs.declared.transfer.Transfer.{Transfer}
 use Rattle.bus_model.specs.declared.transfer.Started.{Started}
-use Rattle.bus_model.specs.Places.{slow_place, meets}
+use Rattle.bus_model.specs.Places.{meets}
 use Rattle.bus_model.specs.Copies.{number_at}
 use Rattle.bus_model.proofs.Places.{meets_at}
 use Rattle.tag_table.specs.Rule.{started_at, ClearOfOut, ClearOfAll}

@@ -1,6 +1,6 @@
 -- A transfer that is handed over.
-use Rattle.std.proofs.Common.{◌≡◌, ◌≢◌, ◌⊎◌, inl, inr, ⊎_elim, ℕ, ℤ, pos, ◌+◌, ◌<◌, ◌≤◌, Bool, true, false, List, [], ◌∷◌, ◌++◌, length, set, sym, refl, ap, ◌∙◌, arith, eq-eqb, subst, length-set, get_or-set_other, get_or-set_same, All}
-use Rattle.std.specs.Prelude.{vec_capacity, ◌&&◌, Option, Some, None, nat_eq, slice_get, if◌then◌else◌}
+use Rattle.std.proofs.Common.{◌≡◌, ◌≢◌, ◌⊎◌, inl, inr, ℕ, ℤ, ◌+◌, ◌<◌, ◌≤◌, Bool, true, false, List, [], ◌∷◌, ◌++◌, length, set, sym, refl, ap, ◌∙◌, arith, eq-eqb, subst, length-set, get_or-set_other, get_or-set_same}
+use Rattle.std.specs.Prelude.{vec_capacity, ◌&&◌, Option, Some, None, nat_eq, if◌then◌else◌}
 use Rattle.std.proofs.lemmas.List.{length_push}
 use Rattle.std.proofs.lemmas.List.Elements.{All-append, All-cons}
 use Rattle.std.proofs.lemmas.List.{length-map}
@@ -24,13 +24,13 @@ use Rattle.bus_model.proofs.Copies.{length-first_in, length-first_out}
 use Rattle.bus_model.specs.Copies.{moved_in, moved_out}
 use Rattle.bus_model.specs.Engines.{started_of}
 use Rattle.bus_model.proofs.Halves.{halves_start}
-use Rattle.fast_halves.specs.Shape.{HalfShape, HalvesShape, here, away}
+use Rattle.fast_halves.specs.Shape.{here, away}
 use Rattle.tag_table.specs.Rule.{started_at}
 use Rattle.tag_table.specs.Shapes.{BusShape, IsIdle, ComputeShape, MayStart, after_start, with_tag, with_prompt}
 use Rattle.prompt_meaning.specs.Device.{Device, record_of, is_started, is_away, start_races, put_half, started, recorded, copied_in, copied_out}
 use Rattle.overlap_memory.specs.declared.memory.Memory.{Memory}
 use Rattle.overlap_memory.specs.Tied.{Tied, FastShape, IsAllocated, CanStart, IsPlaced, half_at, memref_at, tag_of, with_list, lists_of, how_many}
-use Rattle.overlap_memory.proofs.Lists.{both_ways, if_true, if_false, none_some, same_some, started_in, started_by, any_none, record_behind, record_before, tags_behind}
+use Rattle.overlap_memory.proofs.Lists.{both_ways, if_true, if_false, same_some, started_in, started_by, any_none, record_behind, record_before, tags_behind}
 use Rattle.overlap_memory.proofs.Changed.{changed, changed_length, half_same, half_other, cells_same, halves_same}
 use Rattle.overlap_memory.proofs.Counts.{count_start, count_less, not_started}
 

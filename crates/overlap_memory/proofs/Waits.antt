@@ -1,13 +1,13 @@
 -- A transfer that is taken back.
-use Rattle.std.proofs.Common.{◌≡◌, ◌≢◌, ℕ, ℤ, pos, ◌+◌, ◌<◌, ◌≤◌, Bool, true, false, List, length, set, sym, refl, ap, ◌∙◌, arith, length-set, get_or-set_other, get_or-set_same}
-use Rattle.std.specs.Prelude.{vec_capacity, Option, Some, None, slice_get}
+use Rattle.std.proofs.Common.{◌≡◌, ◌≢◌, ℕ, ℤ, ◌<◌, List, length, set, sym, refl, ap, ◌∙◌, arith, length-set, get_or-set_other, get_or-set_same}
+use Rattle.std.specs.Prelude.{vec_capacity, Option, Some, None}
 use Rattle.std.proofs.lemmas.Option.{slice_get_within}
 use native.Mathlib.Decide.{ℕ_discrete}
 use Rattle.bus_model.specs.declared.transfer.Transfer.{Transfer}
 use Rattle.bus_model.specs.declared.transfer.Started.{Started}
 use Rattle.bus_model.specs.Engines.{started_of}
 use Rattle.bus_model.proofs.Halves.{halves_drop}
-use Rattle.fast_halves.specs.Shape.{HalfShape, HalvesShape, here, away, IsAway}
+use Rattle.fast_halves.specs.Shape.{HalfShape, here, away}
 use Rattle.tag_table.specs.Rule.{started_at}
 use Rattle.tag_table.specs.Shapes.{BusShape, IsIdle}
 use Rattle.prompt_meaning.specs.Device.{Device, record_of, without}

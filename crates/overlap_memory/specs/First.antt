@@ -1,5 +1,5 @@
 -- The states of the prompt meaning at the beginning of a run.
-use Rattle.std.specs.Prelude.{◌≡◌, ℕ, ℤ, List, [], length, None}
+use Rattle.std.specs.Prelude.{◌≡◌, ℤ, List, [], length, None}
 use Rattle.fast_halves.specs.Shape.{HalvesShape}
 use Rattle.prompt_meaning.specs.Device.{Device}
 use Rattle.overlap_memory.specs.Tied.{FastShape, memref_at}

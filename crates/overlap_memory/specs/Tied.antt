@@ -1,6 +1,6 @@
 -- How the compute thread's memory, beside a bus whose transfers are under way, stands for a state of the prompt
 -- meaning.
-use Rattle.std.specs.Prelude.{vec_capacity, ◌≡◌, ℕ, ℤ, ◌+◌, ◌*◌, ◌<◌, ◌≤◌, ◌^◌, Bool, List, [], ◌∷◌, map, length}
+use Rattle.std.specs.Prelude.{vec_capacity, ◌≡◌, ℕ, ℤ, ◌+◌, ◌*◌, ◌<◌, ◌≤◌, ◌^◌, List, [], ◌∷◌, map, length}
 use Rattle.std.specs.Prelude.{Option, Some, None, Result, Ok, Err, slice_get, slice_index_or}
 use Rattle.std.specs.List.{All}
 use Rattle.affine_ast.specs.declared.name.Name.{Name}

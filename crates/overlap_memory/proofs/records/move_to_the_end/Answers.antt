@@ -1,4 +1,4 @@
-use Rattle.std.proofs.Common.{◌+◌, ◌-◌, ◌≤◌, length, false, arith}
+use Rattle.std.proofs.Common.{◌-◌, length, false, arith}
 use Rattle.std.proofs.lemmas.Slice.{put_mid-rotated}
 use Rattle.bus_model.specs.declared.transfer.Transfer.{Transfer}
 use Rattle.overlap_memory.proofs.records.move_to_the_end.Goals as goal

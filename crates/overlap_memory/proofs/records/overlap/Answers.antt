@@ -1,4 +1,4 @@
-use Rattle.std.proofs.Common.{◌≡◌, ◌∙◌, sym, ap, arith}
+use Rattle.std.proofs.Common.{◌∙◌, sym, ap, arith}
 use Rattle.bus_model.specs.Places.{meets}
 use Rattle.overlap_memory.proofs.Finds.{overlap_found, overlap_none}
 use Rattle.overlap_memory.proofs.records.overlap.Goals as goal

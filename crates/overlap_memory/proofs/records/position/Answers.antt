@@ -1,4 +1,4 @@
-use Rattle.std.proofs.Common.{◌≡◌, ◌∙◌, ◌+◌, sym, ap, arith, take, suc}
+use Rattle.std.proofs.Common.{◌≡◌, ◌∙◌, ◌+◌, ap, arith, take, suc}
 use Rattle.prompt_meaning.specs.Device.{record_of}
 use Rattle.std.proofs.lemmas.Option.{slice_get-get_or}
 use Rattle.overlap_memory.proofs.Finds.{first_record, no_record_more}

@@ -1,4 +1,4 @@
-use Rattle.std.proofs.Common.{rules, w64, ◌≡◌, sym, refl, ap, ◌∙◌, subst, arith, length, replicate, All}
+use Rattle.std.proofs.Common.{rules, w64, sym, refl, ap, ◌∙◌, subst, arith, length, replicate, All}
 use Rattle.std.proofs.lemmas.Int.{to_z-of_z}
 use Rattle.fast_halves.specs.Shape.{HalvesShape, here, IsHere}
 use Rattle.overlap_memory.proofs.Changed.{memref_is}

@@ -1,5 +1,5 @@
-use Rattle.std.proofs.Common.{rules, ◌≡◌, ◌≢◌, ◌+◌, ◌∙◌, sym, ap, subst, arith, refl, length, ⊎_elim}
-use Rattle.std.specs.Prelude.{slice_get, Some, None}
+use Rattle.std.proofs.Common.{◌∙◌, sym, ap, arith, refl}
+use Rattle.std.specs.Prelude.{slice_get}
 use Rattle.fast_halves.specs.Shape.{HalvesShape}
 use Rattle.overlap_memory.proofs.Changed.{memref_is, changed_is}
 use Rattle.overlap_memory.proofs.Starts.{has_room, may_start, begun_as, not_out}

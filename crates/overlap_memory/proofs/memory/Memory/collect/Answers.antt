@@ -1,5 +1,5 @@
-use Rattle.std.proofs.Common.{rules, ◌≡◌, ◌+◌, ◌∙◌, sym, ap, subst, arith, refl, length}
-use Rattle.std.specs.Prelude.{slice_get, Some}
+use Rattle.std.proofs.Common.{◌∙◌, sym, ap, subst, arith, refl, length}
+use Rattle.std.specs.Prelude.{slice_get}
 use Rattle.fast_halves.specs.Shape.{HalvesShape, IsAway}
 use Rattle.std.proofs.lemmas.List.Edits.{length-remove}
 use Rattle.prompt_meaning.specs.Device.{record_of}

@@ -1,6 +1,6 @@
-use Rattle.std.proofs.Common.{◌≡◌, ◌+◌, ◌∙◌, sym, ap, subst, arith}
-use Rattle.prompt_meaning.specs.Device.{record_of, without}
-use Rattle.overlap_memory.proofs.Drains.{Left, first_is, none_left, all_taken}
+use Rattle.std.proofs.Common.{◌∙◌, sym}
+use Rattle.prompt_meaning.specs.Device.{without}
+use Rattle.overlap_memory.proofs.Drains.{all_taken}
 use Rattle.overlap_memory.proofs.memory.Memory.drain.Goals as goal
 
 pub loop-transfer-init : goal.loop-transfer-init

@@ -1,4 +1,4 @@
-use Rattle.std.proofs.Common.{◌≡◌, ℕ, length}
+use Rattle.std.proofs.Common.{length}
 use Rattle.prompt_meaning.specs.Device.{Device}
 use Rattle.overlap_memory.specs.Tied.{Tied, FastShape}
 use Rattle.overlap_memory.proofs.Drains.{Left}

@@ -1,4 +1,4 @@
-use Rattle.std.proofs.Common.{rules, ◌≡◌, ◌+◌, ◌∙◌, sym, ap, subst, arith, w64}
+use Rattle.std.proofs.Common.{rules, ◌∙◌, sym, ap, w64}
 use Rattle.std.proofs.lemmas.Int.{to_z-of_z}
 use Rattle.std.specs.Prelude.{slice_get, Some}
 use Rattle.fast_halves.specs.Shape.{HalvesShape}

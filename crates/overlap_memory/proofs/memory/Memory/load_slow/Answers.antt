@@ -1,8 +1,8 @@
-use Rattle.std.proofs.Common.{rules, ◌≡◌, ◌+◌, ◌∙◌, sym, ap, subst, arith}
+use Rattle.std.proofs.Common.{◌∙◌, sym, ap, subst, arith}
 use Rattle.std.specs.List.{All}
 use Rattle.prompt_meaning.specs.Device.{load_races}
 use Rattle.overlap_memory.specs.Tied.{IsPlaced}
-use Rattle.overlap_memory.proofs.Slow.{clear_of_out, load_gives, load_faults}
+use Rattle.overlap_memory.proofs.Slow.{clear_of_out}
 use Rattle.overlap_memory.proofs.memory.Memory.load_slow.Goals as goal
 
 pub load_races-requires : goal.load_races-requires

@@ -1,4 +1,4 @@
-use Rattle.std.proofs.Common.{◌≡◌, ◌≤◌, ◌∙◌, sym, refl, subst, arith}
+use Rattle.std.proofs.Common.{refl, arith}
 use Rattle.overlap_memory.proofs.Begins.{tied_at_first}
 use Rattle.overlap_memory.proofs.memory.Memory.new.Goals as goal
 

@@ -1,4 +1,4 @@
-use Rattle.std.proofs.Common.{◌≡◌, ◌+◌, ◌∙◌, sym, ap, subst, arith}
+use Rattle.std.proofs.Common.{◌∙◌, sym, ap, subst, arith}
 use Rattle.std.specs.List.{All}
 use Rattle.prompt_meaning.specs.Device.{is_started, is_away, start_races, started}
 use Rattle.overlap_memory.proofs.Starts.{start_passes}

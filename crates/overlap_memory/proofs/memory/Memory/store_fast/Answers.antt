@@ -1,10 +1,7 @@
-use Rattle.std.proofs.Common.{rules, ◌≡◌, ◌+◌, ◌∙◌, sym, ap, subst, arith, refl, w64}
+use Rattle.std.proofs.Common.{rules, ◌∙◌, sym, ap, refl, w64}
 use Rattle.std.proofs.lemmas.Int.{to_z-of_z}
-use Rattle.std.specs.Prelude.{slice_get, Some, Ok, Err}
+use Rattle.std.specs.Prelude.{slice_get}
 use Rattle.fast_halves.specs.Shape.{HalvesShape}
-use Rattle.direct_meaning.specs.Action.{Fast}
-use Rattle.prompt_meaning.specs.Prompt.{prompt_store}
-use Rattle.overlap_memory.specs.Tied.{Follows}
 use Rattle.overlap_memory.proofs.Changed.{memref_is, changed_is, put_back}
 use Rattle.overlap_memory.proofs.Fast.{store_follows_as, store_faults, tied_again}
 use Rattle.overlap_memory.proofs.memory.Memory.store_fast.Goals as goal

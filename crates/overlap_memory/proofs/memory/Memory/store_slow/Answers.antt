@@ -1,4 +1,4 @@
-use Rattle.std.proofs.Common.{rules, ◌≡◌, ◌+◌, ◌∙◌, sym, ap, subst, arith, refl, w64}
+use Rattle.std.proofs.Common.{rules, ◌∙◌, sym, ap, subst, arith, w64}
 use Rattle.std.proofs.lemmas.Int.{to_z-of_z}
 use Rattle.std.specs.Prelude.{Ok}
 use Rattle.std.specs.List.{All}
@@ -7,7 +7,7 @@ use Rattle.direct_meaning.specs.Action.{Slow}
 use Rattle.prompt_meaning.specs.Device.{store_races}
 use Rattle.prompt_meaning.specs.Prompt.{prompt_store}
 use Rattle.overlap_memory.specs.Tied.{IsPlaced, Follows}
-use Rattle.overlap_memory.proofs.Slow.{clear_of_all, store_follows, store_faults}
+use Rattle.overlap_memory.proofs.Slow.{clear_of_all, store_follows}
 use Rattle.overlap_memory.proofs.memory.Memory.store_slow.Goals as goal
 
 pub store_races-requires : goal.store_races-requires
