@@ -3,10 +3,10 @@ use Rattle.std.specs.Prelude.{None}
 use Rattle.std.proofs.lemmas.List.{map-set}
 use Rattle.bus_model.specs.Engines.{with_engine}
 use Rattle.order_meaning.specs.Machine.{HasAll}
-use Rattle.order_engines.specs.declared.Flying.{Flying}
+use Rattle.order_engines.specs.declared.flying.Flying.{Flying}
 use Rattle.order_engines.specs.Flying.{flight, flights_of}
 use Rattle.order_engines.proofs.Places.{value_at, own_place}
-use Rattle.order_engines.proofs.finish.Goals as goal
+use Rattle.order_engines.proofs.engines.finish.Goals as goal
 
 pub returns : goal.returns
 returns c =

@@ -1,12 +1,12 @@
-use Rattle.std.proofs.Common.{set, sym, ap, ◌∙◌, subst, arith}
+use Rattle.std.proofs.Common.{length, set, sym, ap, ◌∙◌, subst, arith}
 use Rattle.std.specs.Prelude.{if◌then◌else◌}
 use Rattle.std.proofs.lemmas.List.{map-set}
 use Rattle.bus_model.specs.Engines.{Flight, next_in, next_out, slow_out}
 use Rattle.order_meaning.specs.Machine.{HasMore}
-use Rattle.order_engines.specs.declared.Flying.{Flying}
-use Rattle.order_engines.specs.Flying.{flight, flights_of}
-use Rattle.order_engines.proofs.Places.{value_at, own_place, chosen}
-use Rattle.order_engines.proofs.move_next.Goals as goal
+use Rattle.order_engines.specs.declared.flying.Flying.{Flying}
+use Rattle.order_engines.specs.Flying.{flight, flights_of, FliesWithin}
+use Rattle.order_engines.proofs.Places.{value_at, flight_at, own_place, chosen}
+use Rattle.order_engines.proofs.engines.move_next.Goals as goal
 
 pub returns : goal.returns
 returns c =
@@ -32,3 +32,9 @@ returns c =
         words = c.move_next.ensures.words ∙ ap (λ (h : Flying). if h.transfer.incoming then slow else slow_out slow (flight h)) is;
       },
     )
+
+pub move_next-requires-clause-within : goal.move_next-requires-clause-within
+move_next-requires-clause-within c =
+    let f = c.in-Some.ensures.0 in
+    let at = c.in-Some.ensures.1 in
+    subst (λ (g : Flying). FliesWithin (length c.args.slow.now) (flight g)) (sym (value_at c.args.flights.now c.in-Some.k f c.index-flights-k-3.result at)) (c.requires.within c.in-Some.k (flight f) (flight_at c.args.flights.now c.in-Some.k f at))

@@ -3,10 +3,10 @@ use Rattle.std.specs.Prelude.{Some, None}
 use Rattle.std.proofs.lemmas.List.{map-set}
 use Rattle.bus_model.specs.Engines.{with_engine}
 use Rattle.order_meaning.specs.Machine.{held_by, CanBeTaken}
-use Rattle.order_engines.specs.declared.Flying.{Flying}
+use Rattle.order_engines.specs.declared.flying.Flying.{Flying}
 use Rattle.order_engines.specs.Flying.{flight, flights_of}
 use Rattle.order_engines.proofs.Places.{value_at, none_left, none_found}
-use Rattle.order_engines.proofs.take.Goals as goal
+use Rattle.order_engines.proofs.engines.take.Goals as goal
 
 pub returns : goal.returns
 returns c =
