@@ -7,13 +7,13 @@ use Rattle.constraint_set.specs.Reach.{IsBounded}
 use Rattle.constraint_set.proofs.Steps.{Each-first, Each-second, Each-weaken, Each-unmap}
 use Rattle.affine_expr.specs.declared.linear.LinearFault.{LinearFault}
 use Rattle.affine_expr.specs.Forms.{Form, dot}
-use Rattle.affine_expr.specs.Linear.{◌>>=◌}
+use Rattle.affine_expr.specs.Linear.{◌>>=◌, padded, minus}
 use Rattle.affine_expr.proofs.FormValues.{Gives}
 use Rattle.affine_ast.specs.declared.module.Arg.{Arg}
 use Rattle.affine_ast.specs.declared.name.Name.{Name}
 use Rattle.affine_ast.specs.declared.types.Access.{Access}
 use Rattle.nest_domain.specs.Ways.{Header}
-use Rattle.nest_domain.specs.Forms.{padded, minus, Formed, all_floor_rows}
+use Rattle.nest_domain.specs.Forms.{Formed, all_floor_rows}
 use Rattle.nest_domain.specs.Domains.{Known, map_forms, place, row_at, system_of, Accessed, access}
 use Rattle.nest_domain.specs.Laws.{HasBounds, CombinationsAreBounded, SubscriptsAreBounded}
 use Rattle.nest_domain.proofs.Rowed.{IsMinus, minus_gives}

@@ -12,10 +12,10 @@ use Rattle.affine_expr.specs.declared.expr.Expr.TheOpen.{Expr-F}
 use Rattle.affine_expr.specs.declared.linear.Join.{Join}
 use Rattle.affine_expr.specs.declared.linear.Join.TheVariants.{Sum, Difference}
 use Rattle.affine_expr.specs.Forms.{Form, LocalForm, dot}
-use Rattle.affine_expr.specs.Linear.{joined, join_forms, scale_form, number_form, floored_form, rest_form, raised, local_of, State, state, Part, divisor, scaled_by, product_by, floor_by, ceil_by, rest_by}
+use Rattle.affine_expr.specs.Linear.{joined, join_forms, scale_form, number_form, floored_form, rest_form, raised, local_of, State, state, Part, divisor, scaled_by, product_by, floor_by, ceil_by, rest_by, padded, joined_by, leaf, over}
 use Rattle.affine_expr.proofs.FormValues.{Gives, then, worth, IsJoin, join_forms_gives, IsScale, scale_form_gives, IsRaised, raised_gives, dot-zeros, number_long}
-use Rattle.nest_domain.specs.Forms.{padded, joined_over, leaf, over, Formed, all_over, floor_rows, all_floor_rows}
-use Rattle.nest_domain.proofs.Means.{padded_worth, padded_most}
+use Rattle.nest_domain.specs.Forms.{Formed, all_over, floor_rows, all_floor_rows}
+use Rattle.affine_expr.proofs.Meaning.{padded_worth, padded_most}
 use Rattle.nest_domain.proofs.Rowed.{IsMinus}
 
 -- a quotient by c of what is at most h * y is at most |h| * y
@@ -320,7 +320,7 @@ module _ (S : List ℤ → ℤ → Type 0) (scale : (p : List ℤ) (y : ℤ) →
   brings_further : (a b c m n : List LocalForm) → b ≡ a ++ m → c ≡ b ++ n → c ≡ a ++ (m ++ n)
   brings_further a b c m n e f = f ∙ ap (λ x. x ++ n) e ∙ append_assoc a m n
 
-  join_boundable : (w : Join) (a b : Part) → Boundable a → Boundable b → (ls : List LocalForm) → Gives (joined_over w a b ls) (Brings ls)
+  join_boundable : (w : Join) (a b : Part) → Boundable a → Boundable b → (ls : List LocalForm) → Gives (joined_by w a b ls) (Brings ls)
   join_boundable w a b h k ls = then (a.form ls) _ (Brings ls) (Brings ls) (h ls) (λ f gf.
       then (b.form f.locals) _ (Brings f.locals) (Brings ls) (k f.locals) (λ g gg.
       let second = padded (length f.form.coefs) g.form in

@@ -4,7 +4,7 @@ use Rattle.affine_expr.specs.declared.linear.LinearFault.{LinearFault}
 use Rattle.affine_expr.specs.declared.map.Set.{Set}
 use Rattle.affine_expr.specs.Spread.{Range}
 use Rattle.affine_expr.specs.Forms.{Form, LocalForm}
-use Rattle.affine_expr.specs.Linear.{◌>>=◌, variable_form, number_form}
+use Rattle.affine_expr.specs.Linear.{◌>>=◌, variable_form, number_form, minus}
 use Rattle.affine_expr.proofs.FormValues.{Gives, then}
 use Rattle.affine_ast.specs.declared.module.Arg.{Arg}
 use Rattle.affine_ast.specs.declared.module.ArgKind.{ArgKind}
@@ -18,7 +18,7 @@ use Rattle.affine_ast.specs.declared.types.Scalar.TheVariants as scalar
 use Rattle.affine_ast.specs.Intervals.{range_or}
 use Rattle.affine_ast.specs.Nest.{Plain, Value, Load, Store, RawLoad, RawStore, Constant, Binary, Cast, Alloc, Dealloc, Start, Wait, Return}
 use Rattle.nest_domain.specs.Ways.{Header, Round, Given, Except, Behind, Past, has_name, used, loop_count}
-use Rattle.nest_domain.specs.Forms.{minus, all_floor_rows}
+use Rattle.nest_domain.specs.Forms.{all_floor_rows}
 use Rattle.nest_domain.specs.Domains.{Known, operand_forms, map_forms, bound_forms, all_from, upper_rows, set_rows, first_form, picked_rows, with_divisions, in_loop, in_condition, named, with_pick, with_value, formed_behind, behind_plain, along, count_of, symbol_count, with_kind, with_arguments, nothing_known, place}
 
 -- a step whose answer says nothing

@@ -13,7 +13,7 @@ use Rattle.affine_expr.specs.declared.map.Set.{Set}
 use Rattle.affine_expr.specs.Value.{floor_div}
 use Rattle.affine_expr.specs.Spread.{Range}
 use Rattle.affine_expr.specs.Forms.{Form, LocalForm, dot}
-use Rattle.affine_expr.specs.Linear.{◌>>=◌, or_wide, number_form, variable_form}
+use Rattle.affine_expr.specs.Linear.{◌>>=◌, or_wide, number_form, variable_form, padded, minus}
 use Rattle.affine_expr.proofs.FormValues.{Gives, then, narrow_gives, variable_worth}
 use Rattle.affine_ast.specs.declared.module.Arg.{Arg}
 use Rattle.affine_ast.specs.declared.module.ArgKind.{ArgKind}
@@ -30,7 +30,7 @@ use Rattle.affine_ast.specs.Names.{same_name, put}
 use Rattle.affine_ast.specs.Nest.{Plain, Value, Load, Store, RawLoad, RawStore, Constant, Binary, Cast, Alloc, Dealloc, Start, Wait, Return}
 use Rattle.affine_ast.proofs.Names.{put-same, put-other}
 use Rattle.nest_domain.specs.Ways.{Header, Round, Given, Except, Behind, Past, has_name, used, loop_count}
-use Rattle.nest_domain.specs.Forms.{padded, minus, Formed, all_floor_rows}
+use Rattle.nest_domain.specs.Forms.{Formed, all_floor_rows}
 use Rattle.nest_domain.specs.Domains.{Known, operand_forms, map_forms, bound_forms, all_from, shifted, upper_row, last_row, upper_rows, set_rows, in_loop, in_condition, named, first_form, applied, picked_rows, with_pick, with_value, formed_behind, behind_plain, along, count_of, symbol_count, with_symbol, with_kind, with_arguments, nothing_known, place}
 use Rattle.nest_domain.specs.Laws.{HasResult, HasBounds}
 use Rattle.nest_domain.proofs.Rowed.{IsMinus, minus_gives}

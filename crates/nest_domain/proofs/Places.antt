@@ -9,7 +9,7 @@ use Rattle.constraint_set.proofs.Steps.{Each-append, Each-weaken, Each-map}
 use Rattle.affine_expr.specs.declared.linear.LinearFault.{LinearFault}
 use Rattle.affine_expr.specs.Spread.{Range, Within, only}
 use Rattle.affine_expr.specs.Forms.{Form, dot, with_locals}
-use Rattle.affine_expr.specs.Linear.{◌>>=◌, number_form, variable_form}
+use Rattle.affine_expr.specs.Linear.{◌>>=◌, number_form, variable_form, padded, minus}
 use Rattle.affine_expr.proofs.FormValues.{Gives, then, worth}
 use Rattle.affine_expr.proofs.Locals.{length-with_locals}
 use Rattle.affine_ast.specs.declared.image.Cells.{Cells}
@@ -24,10 +24,10 @@ use Rattle.direct_meaning.specs.Actions.{after_plain, behind}
 use Rattle.direct_meaning.specs.Memory.{FitsArg, FitsArgs, Placed, place_kind, place_arg, empty_env, placed_args, start_env}
 use Rattle.direct_meaning.proofs.RangesHold.{RangesHold, put_in}
 use Rattle.nest_domain.specs.Ways.{Header, Round, Given, Except, Behind, Past, loop_count}
-use Rattle.nest_domain.specs.Forms.{padded, minus, Formed, all_floor_rows}
+use Rattle.nest_domain.specs.Forms.{Formed, all_floor_rows}
 use Rattle.nest_domain.specs.Domains.{Known, map_forms, along, count_of, symbol_count, with_symbol, with_kind, with_arguments, nothing_known, place, row_at, system_of, Accessed, with_subscripts, access}
 use Rattle.nest_domain.specs.Visits.{Visits}
-use Rattle.nest_domain.proofs.Means.{padded_worth, padded_long, padded_most, Are}
+use Rattle.affine_expr.proofs.Meaning.{padded_worth, padded_long, padded_most, Are}
 use Rattle.nest_domain.proofs.Rowed.{RowHolds, minus_row, AllGood, grows, all_floor_rows_hold}
 use Rattle.nest_domain.proofs.Walks.{Placed as Stand, Holds, Arrived, AffineWay, stands_put, turn_is, number_row, map_gives, along_arrives, holds_floored}
 

@@ -22,14 +22,14 @@ use Rattle.affine_expr.specs.declared.linear.Join.TheVariants.{Difference}
 use Rattle.affine_expr.specs.Value.{floor_div, value}
 use Rattle.affine_expr.specs.Truth.{compares, all_hold}
 use Rattle.affine_expr.specs.Forms.{Form, LocalForm, dot, with_locals, AreInOrder}
-use Rattle.affine_expr.specs.Linear.{◌>>=◌, or_wide, join_forms, number_form}
+use Rattle.affine_expr.specs.Linear.{◌>>=◌, or_wide, join_forms, number_form, padded, minus, over}
 use Rattle.affine_expr.proofs.Divisions.{floor_is}
 use Rattle.affine_expr.proofs.FormValues.{Gives, then, narrow_gives, worth, IsJoin, join_forms_gives, dot-longer, dot-last, number_worth, number_long}
 use Rattle.affine_expr.proofs.Locals.{floor_at, length-with_locals, kept}
 use Rattle.direct_meaning.specs.Static.{greatest}
-use Rattle.nest_domain.specs.Forms.{padded, minus, over, Formed, all_over, floor_rows, all_floor_rows}
+use Rattle.nest_domain.specs.Forms.{Formed, all_over, floor_rows, all_floor_rows}
 use Rattle.nest_domain.specs.Domains.{all_from, all_less, shifted, upper_row, last_row, upper_rows, compared_rows, set_rows}
-use Rattle.nest_domain.proofs.Means.{padded_worth, padded_most, Is, Are, Good, over_gives}
+use Rattle.affine_expr.proofs.Meaning.{padded_worth, padded_most, Is, Are, Good, over_gives}
 
 pub weaker : {A : Type 0} (w : Result A LinearFault) (P Q : A → Type 0) → Gives w P → ((x : A) → P x → Q x) → Gives w Q
 weaker (Ok x) P Q h f = f x h

@@ -6,7 +6,7 @@ use Rattle.num_row.proofs.Ring.{Var, ◌⊗◌, ring}
 use Rattle.affine_expr.specs.declared.linear.LinearFault.{LinearFault}
 use Rattle.affine_expr.specs.Spread.{Range}
 use Rattle.affine_expr.specs.Forms.{Form, LocalForm, with_locals}
-use Rattle.affine_expr.specs.Linear.{◌>>=◌, variable_form, number_form}
+use Rattle.affine_expr.specs.Linear.{◌>>=◌, variable_form, number_form, minus}
 use Rattle.affine_expr.proofs.FormValues.{Gives, then, worth}
 use Rattle.affine_ast.specs.declared.name.Name.{Name}
 use Rattle.affine_ast.specs.declared.types.Access.{Access}
@@ -22,10 +22,10 @@ use Rattle.direct_meaning.specs.Actions.{after_plain, behind}
 use Rattle.direct_meaning.specs.Work.{ranges_after}
 use Rattle.direct_meaning.proofs.RangesHold.{RangesHold, put_in, plain_in, lower_in, upper_in}
 use Rattle.nest_domain.specs.Ways.{Header, Round, Given, Except, Behind, Past, has_name, used}
-use Rattle.nest_domain.specs.Forms.{minus, all_floor_rows}
+use Rattle.nest_domain.specs.Forms.{all_floor_rows}
 use Rattle.nest_domain.specs.Domains.{Going, Known, map_forms, bound_forms, all_from, upper_rows, first_form, picked_rows, with_divisions, in_loop, named, with_pick, with_value, formed_behind, behind_plain, along}
 use Rattle.nest_domain.specs.Visits.{IsTurn, Visits}
-use Rattle.nest_domain.proofs.Means.{Are}
+use Rattle.affine_expr.proofs.Meaning.{Are}
 use Rattle.nest_domain.proofs.Rowed.{grows, AllGood, are_grown}
 use Rattle.nest_domain.proofs.Walks.{Holds, Reached, AffineWay, bound_values, bound_gives, lower_is, upper_is, loop_reached, plain_reached, steps_up, turn_within}
 

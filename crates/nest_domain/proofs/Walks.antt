@@ -13,7 +13,7 @@ use Rattle.affine_expr.specs.declared.map.Set.{Set}
 use Rattle.affine_expr.specs.Truth.{holds}
 use Rattle.affine_expr.specs.Spread.{Range, Within}
 use Rattle.affine_expr.specs.Forms.{Form, LocalForm, with_locals, AreInOrder}
-use Rattle.affine_expr.specs.Linear.{◌>>=◌, or_wide, number_form, variable_form}
+use Rattle.affine_expr.specs.Linear.{◌>>=◌, or_wide, number_form, variable_form, padded, minus}
 use Rattle.affine_expr.proofs.FormValues.{Gives, then, number_worth, number_long, variable_worth, variable_long}
 use Rattle.affine_expr.proofs.Locals.{length-with_locals}
 use Rattle.affine_ast.specs.declared.name.Name.{Name}
@@ -35,10 +35,10 @@ use Rattle.direct_meaning.specs.Pure.{AffinePlain}
 use Rattle.direct_meaning.specs.Work.{ranges_after}
 use Rattle.direct_meaning.proofs.RangesHold.{RangesHold, put_in, plain_in, lower_in, upper_in}
 use Rattle.nest_domain.specs.Ways.{Header, Round, Given, Except, Behind, Past, has_name, used}
-use Rattle.nest_domain.specs.Forms.{padded, minus, Formed, all_floor_rows}
+use Rattle.nest_domain.specs.Forms.{Formed, all_floor_rows}
 use Rattle.nest_domain.specs.Domains.{Known, operand_forms, map_forms, bound_forms, all_from, upper_rows, set_rows, with_divisions, in_loop, in_condition, named, first_form, applied, picked_rows, with_pick, with_value, formed_behind, behind_plain, along}
 use Rattle.nest_domain.specs.Visits.{IsTurn, Visits}
-use Rattle.nest_domain.proofs.Means.{padded_worth, padded_long, Is, Are}
+use Rattle.affine_expr.proofs.Meaning.{padded_worth, padded_long, Is, Are}
 use Rattle.nest_domain.proofs.Rowed.{RowHolds, minus_row, all_from_hold, all_less_hold, upper_rows_hold, is_longer, rows_longer, grows, all_floor_rows_hold, At, are_grown, AllGood, AllRows, all_over_gives, set_rows_hold}
 
 -- a name's form, where it has one, has the name's number

@@ -13,7 +13,7 @@ use Rattle.affine_expr.specs.declared.linear.LinearFault.TheVariants.{Wide}
 use Rattle.affine_expr.specs.Value.{floor_div}
 use Rattle.affine_expr.specs.Spread.{Range, only}
 use Rattle.affine_expr.specs.Forms.{Form, LocalForm}
-use Rattle.affine_expr.specs.Linear.{◌>>=◌, or_wide, number_form, variable_form}
+use Rattle.affine_expr.specs.Linear.{◌>>=◌, or_wide, number_form, variable_form, padded, minus, over}
 use Rattle.affine_ast.specs.declared.module.Arg.{Arg}
 use Rattle.affine_ast.specs.declared.module.ArgKind.{ArgKind}
 use Rattle.affine_ast.specs.declared.module.ArgKind.TheVariants.{Memref, Index}
@@ -30,7 +30,7 @@ use Rattle.affine_ast.specs.Names.{put}
 use Rattle.affine_ast.specs.Nest.{Plain, Value, Load, RawLoad, Constant, Binary, Cast}
 use Rattle.direct_meaning.specs.Work.{ranges_after}
 use Rattle.nest_domain.specs.Ways.{Header, Round, Given, Except, Behind, Past, has_name, used, loop_count}
-use Rattle.nest_domain.specs.Forms.{padded, minus, over, Formed, all_over, all_floor_rows}
+use Rattle.nest_domain.specs.Forms.{Formed, all_over, all_floor_rows}
 
 -- what a loop goes over: the forms of its lower and of its upper results, and its step
 pub record Going : Type 0 where

@@ -4,6 +4,7 @@ use Rattle.constraint_set.specs.Lists.{Each}
 use Rattle.constraint_set.specs.Points.{PointOf}
 use Rattle.constraint_set.specs.Reach.{IsBounded}
 use Rattle.affine_expr.specs.Forms.{Form}
+use Rattle.affine_expr.specs.Linear.{minus}
 use Rattle.affine_ast.specs.declared.image.Image.{Image}
 use Rattle.affine_ast.specs.declared.module.Arg.{Arg}
 use Rattle.affine_ast.specs.declared.module.Module.{Module}
@@ -18,7 +19,6 @@ use Rattle.direct_meaning.specs.Static.{Env}
 use Rattle.direct_meaning.specs.Actions.{action_of}
 use Rattle.direct_meaning.specs.Memory.{Fits, start_env, module_actions}
 use Rattle.nest_domain.specs.Ways.{Header, Round, Given, Except, Behind, Past, Spot, at_path}
-use Rattle.nest_domain.specs.Forms.{minus}
 use Rattle.nest_domain.specs.Domains.{Known, place, row_at, system_of, Accessed, access}
 use Rattle.nest_domain.specs.Visits.{Visits, Along}
 
