@@ -112,8 +112,8 @@ still_idle (t ∷ ts) tag other h = let two = or_false (nat_eq t.tag other) (is_
 
 pub flights_less : (size : ℕ) (ts : List Transfer) (tag : ℕ) → FlightsFit size ts → FlightsFit size (without tag ts)
 flights_less size [] tag h = tt
-flights_less size (t ∷ ts) tag h = by (nat_eq t.tag tag)
+flights_less size (t ∷ ts) tag h = by (nat_eq t.tag tag) (flights_less size ts tag h.2)
   where
-    by : (b : Bool) → FlightsFit size (if b then ts else t ∷ without tag ts)
-    by true = h.2
-    by false = (h.0, still_idle ts tag t.tag h.1, flights_less size ts tag h.2)
+    by : (b : Bool) → FlightsFit size (without tag ts) → FlightsFit size (if b then ts else t ∷ without tag ts)
+    by true more = h.2
+    by false more = (h.0, still_idle ts tag t.tag h.1, more)

@@ -32,6 +32,7 @@ pub record StartIn (rooms : List Room) (y : Device) (t : Transfer) : Type 0 wher
   pub some_chunk : 1 ≤ t.chunk
   pub apart : t.chunk ≤ t.stride
   pub places : (e : ℕ) → e < t.count → slow_place t e < length y.state.slow
+  pub places_fit : (e : ℕ) → e < t.count → slow_place t e < 1048576
 
 -- an allocation by its number
 pub record AllocIn (rooms : List Room) (number : ℕ) (element : Element) (sizes : List ℕ) : Type 0 where
@@ -56,6 +57,7 @@ pub record FlightFits (size : ℕ) (t : Transfer) : Type 0 where
   pub some_chunk : 1 ≤ t.chunk
   pub apart : t.chunk ≤ t.stride
   pub places : (e : ℕ) → e < t.count → slow_place t e < size
+  pub places_fit : (e : ℕ) → e < t.count → slow_place t e < 1048576
 
 -- outstanding transfers, each with a tag of its own
 abbrev pub FlightsFit : ℕ → List Transfer → Type 0
