@@ -1,7 +1,7 @@
 -- What the names of arguments stand for, by number.
 use Rattle.std.specs.Prelude.{◌≡◌}
 use Rattle.direct_meaning.specs.Memory.{Placed}
-use Rattle.walk_actions.specs.Looked.{env_of, IsTable}
+use Rattle.walk_actions.specs.Looked.{env_of}
 use Rattle.nest_walk.specs.declared.arguments.Placing.{Placing}
 
 -- what the tables and counts of the arguments so far say
@@ -11,5 +11,4 @@ placed_of p = record { env = env_of p.scope; memrefs = p.memrefs; elements = p.e
 -- an argument more is placed
 pub record Places (new old : Placing) (placed : Placed) : Type 0 where
   pub placed_is : placed_of new ≡ placed
-  pub table : IsTable new.scope
-  pub names : new.scope.names.now ≡ old.scope.names.now
+  pub names : new.scope.names ≡ old.scope.names

@@ -1,5 +1,5 @@
 -- What is left to do where a walk stands, as a list of regions and loops, each under what is known at its place.
-use Rattle.std.specs.Prelude.{ℕ, ◌+◌, ℤ, pos, ◌≤ℤ◌, ◌<ℤ◌, List, [], ◌∷◌, ◌++◌, length, reverse, flat_map, vec_capacity, if◌then◌else◌}
+use Rattle.std.specs.Prelude.{ℕ, ◌+◌, ℤ, pos, ◌≤ℤ◌, ◌<ℤ◌, List, [], ◌∷◌, ◌++◌, length, flat_map, if◌then◌else◌}
 use Rattle.affine_ast.specs.declared.name.Name.{Name}
 use Rattle.affine_ast.specs.Nest.{Nest, Nothing, Loop, Branch, Does}
 use Rattle.direct_meaning.specs.Action.{Action}
@@ -16,7 +16,7 @@ use Rattle.walk_actions.specs.declared.action.Operand.{Operand}
 use Rattle.walk_actions.specs.Looked.{env_of, homes_meant, with_known, with_home}
 use Rattle.nest_walk.specs.declared.frame.Frame.{Frame}
 use Rattle.nest_walk.specs.declared.frame.Frame.TheVariants.{Rest, Known, Placed, Turns}
-use Rattle.nest_walk.specs.declared.position.Position.{Position}
+use Rattle.nest_walk.specs.Standing.{Standing}
 
 pub data Job : Type 0 where
   -- the statements of a region
@@ -60,16 +60,17 @@ pub record Stand : Type 0 where
   pub uses : ℕ
   pub capacity : ℕ
 
-unfoldable pub stand_of : Position → Stand
+-- where a walk stands, by the names of its numbers
+abbrev pub stand_of : Standing → Stand
 stand_of p = record {
-  names = p.scope.names.now;
-  frames = reverse p.frames.items;
-  rest = p.rest.now;
+  names = p.scope.names;
+  frames = p.frames;
+  rest = p.rest;
   env = env_of p.scope;
-  subscripts = p.subscripts.items;
-  width = vec_capacity p.numbers;
-  uses = vec_capacity p.subscripts;
-  capacity = vec_capacity p.frames;
+  subscripts = p.subscripts;
+  width = p.width;
+  uses = p.uses;
+  capacity = p.capacity;
 }
 
 -- what the frames of a walk leave to do under what is known there
@@ -85,6 +86,10 @@ jobs_of names (Turns v before at upper step start inside body ∷ frames) e =
 -- what is left to do where a walk stands
 unfoldable pub jobs_at : Stand → List Job
 jobs_at s = Region (region_of s.names s.rest) s.env ∷ jobs_of s.names s.frames (behind (region_of s.names s.rest) s.env)
+
+-- the actions that a walk has left to give
+abbrev pub actions_left : Standing → List Action
+actions_left p = all_actions (jobs_at (stand_of p))
 
 -- every number of a job fits
 abbrev pub SafeJob : Job → Type 0

@@ -1,3 +1,4 @@
+pub mod Standing
 pub mod Jobs
 pub mod Ready
 pub mod Arguments

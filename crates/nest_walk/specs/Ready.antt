@@ -8,11 +8,11 @@ use Rattle.walk_program.specs.Counted.{CountsOf, Counted}
 use Rattle.walk_program.specs.Numbered.{Numbered}
 use Rattle.walk_program.specs.Tree.{Tree, Nothing, Loop, Branch, Does, tree}
 use Rattle.walk_actions.specs.declared.action.Action as code
-use Rattle.walk_actions.specs.Looked.{IsTable}
+use Rattle.walk_actions.specs.Looked.{env_of}
 use Rattle.walk_actions.specs.Meant.{meant, NamesIn}
 use Rattle.nest_walk.specs.declared.frame.Frame.{Frame}
 use Rattle.nest_walk.specs.declared.frame.Frame.TheVariants.{Rest, Known, Placed, Turns}
-use Rattle.nest_walk.specs.declared.position.Position.{Position}
+use Rattle.nest_walk.specs.Standing.{Standing}
 use Rattle.nest_walk.specs.Jobs.{Stand, stand_of, region_of, at_numbers, jobs_of, jobs_at, all_actions, steps_at, SafeJobs}
 
 -- how many frames statements need above their own: a loop two and those of its body, a condition one and those of a region, a
@@ -61,14 +61,14 @@ pub record IsSound (s : Stand) : Type 0 where
   pub room : length s.frames + room s.rest ≤ s.capacity
   pub safe : SafeJobs (jobs_at s)
 
-pub record IsReady (p : Position) : Type 0 where
-  pub table : IsTable p.scope
-  pub sound : IsSound (stand_of p)
+abbrev pub IsReady : Standing → Type 0
+IsReady p = IsSound (stand_of p)
 
--- a position whose tables are those of its names stands there
-pub record IsAt (p : Position) (s : Stand) : Type 0 where
-  pub stand : stand_of p ≡ s
-  pub table : IsTable p.scope
+-- the same names stand for what this says, and nothing else is different
+pub record Under (p q : Standing) (e : Env) : Type 0 where
+  pub others : q ≡ record p { scope = q.scope }
+  pub names : q.scope.names ≡ p.scope.names
+  pub env : env_of q.scope ≡ e
 
 -- from where a walk stands it came to another place, at which as much is left to do in fewer steps
 pub record Skips (s t : Stand) : Type 0 where
@@ -91,27 +91,25 @@ pub record Acts (s t : Stand) (action : Action) : Type 0 where
   pub names : t.names ≡ s.names
   pub width : t.width ≡ s.width
 
--- a position to which a walk came from there, with as much left to do
-pub record Moved (p : Position) (s : Stand) : Type 0 where
-  pub skips : Skips s (stand_of p)
-  pub table : IsTable p.scope
+-- a walk moved on, with as much left to do
+abbrev pub Moved : Standing → Standing → Type 0
+Moved p q = Skips (stand_of p) (stand_of q)
 
--- a position that came from there by a change of what is known
-pub record Opened (p : Position) (s : Stand) (e : Env) : Type 0 where
-  pub opens : Opens s (stand_of p).frames e
-  pub at : IsAt p (record s { frames = (stand_of p).frames; env = e })
+-- what is known changed, and what it was is put down
+pub record Opened (p q : Standing) (e : Env) : Type 0 where
+  pub opens : Opens (stand_of p) q.frames e
+  pub at : stand_of q ≡ record (stand_of p) { frames = q.frames; env = e }
 
--- a position to which a walk came from there by an action
-pub record Acted (p : Position) (s : Stand) (action : Action) : Type 0 where
-  pub acts : Acts s (stand_of p) action
-  pub table : IsTable p.scope
+-- a walk moved on by an action
+abbrev pub Acted : Standing → Standing → Action → Type 0
+Acted p q action = Acts (stand_of p) (stand_of q) action
 
--- a position to which a walk came by an action by number, whose numbers are those of names
-pub record Did (action : code.Action) (p q : Position) : Type 0 where
-  pub acted : Acted q (stand_of p) (meant (stand_of p).names (stand_of q).subscripts action)
-  pub inside : NamesIn (length (stand_of p).names) (stand_of q).subscripts action
+-- a walk moved on by an action by number, whose numbers are those of names
+pub record Did (action : code.Action) (p q : Standing) : Type 0 where
+  pub acted : Acted p q (meant p.scope.names q.subscripts action)
+  pub inside : NamesIn (length p.scope.names) q.subscripts action
 
--- a step of a walk: to an action, or to where as much is left to do
-abbrev pub Steps : Option code.Action → Position → Position → Type 0
-Steps None p q = Moved q (stand_of p)
+-- a walk moved on, by an action or with as much left to do
+abbrev pub Steps : Option code.Action → Standing → Standing → Type 0
+Steps None p q = Moved p q
 Steps (Some action) p q = Did action p q

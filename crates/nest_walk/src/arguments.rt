@@ -8,7 +8,7 @@ ghost use Rattle.direct_meaning.specs.Memory.{place_kind, place_arg, empty_env, 
 ghost use Rattle.walk_program.specs.Names.{name_at, AreDistinct};
 ghost use Rattle.walk_program.specs.declared.program.Argument.{Argument as TheArgument};
 ghost use Rattle.walk_program.specs.Reading.{argument_of, arguments_of};
-ghost use Rattle.walk_actions.specs.Looked.{env_of, IsTable};
+ghost use Rattle.walk_actions.specs.Looked.{env_of};
 ghost use Rattle.nest_walk.specs.Arguments.{placed_of, Places};
 
 use affine_ast::{ArgKind, MemrefType, Name};
@@ -39,9 +39,8 @@ fn elements(sizes: &[u32]) -> Option<u32>
 impl<'p, 's> Placing<'p, 's> {
     /// A memref argument: its elements stand behind those of the memrefs before.
     fn place_memref(&mut self, name: u32, ty: &MemrefType) -> Result<(), AllocError>
-        requires table { IsTable self.old.scope }
-        requires name { name < length self.old.scope.names.now }
-        ensures placed { OnOk result (Places self.new self.old (place_kind (Memref ty.now) (name_at self.old.scope.names.now name) (placed_of self.old))) }
+        requires name { name < length self.old.scope.names }
+        ensures placed { OnOk result (Places self.new self.old (place_kind (Memref ty.now) (name_at self.old.scope.names name) (placed_of self.old))) }
     {
         let count = elements(ty.sizes.as_slice()).ok_or(AllocError)?;
         let memrefs = self.memrefs.checked_add(1).ok_or(AllocError)?;
@@ -60,9 +59,8 @@ impl<'p, 's> Placing<'p, 's> {
 
     /// An index argument: the next number, or 0 where there is none.
     fn place_index(&mut self, name: u32)
-        requires table { IsTable self.old.scope }
-        requires name { name < length self.old.scope.names.now }
-        ensures { (range : Option Interval) → Places self.new self.old (place_kind (Index range) (name_at self.old.scope.names.now name) (placed_of self.old)) }
+        requires name { name < length self.old.scope.names }
+        ensures { (range : Option Interval) → Places self.new self.old (place_kind (Index range) (name_at self.old.scope.names name) (placed_of self.old)) }
     {
         let symbols = self.symbols;
         if symbols.is_empty() {
@@ -75,9 +73,8 @@ impl<'p, 's> Placing<'p, 's> {
 
     /// The next argument.
     fn place(&mut self, argument: &Argument) -> Result<(), AllocError>
-        requires table { IsTable self.old.scope }
-        requires name { argument.now.name < length self.old.scope.names.now }
-        ensures { OnOk result (Places self.new self.old (place_arg (placed_of self.old) (argument_of self.old.scope.names.now argument.now))) }
+        requires name { argument.now.name < length self.old.scope.names }
+        ensures { OnOk result (Places self.new self.old (place_arg (placed_of self.old) (argument_of self.old.scope.names argument.now))) }
     {
         match &argument.kind {
             ArgKind::Memref(ty) => self.place_memref(argument.name, ty),
@@ -98,8 +95,7 @@ pub fn placed<'p>(
 ) -> Result<Scope<'p>, AllocError>
     requires distinct { AreDistinct names.now }
     requires inside { All (λ (a : TheArgument). a.name < length names.now) arguments.now }
-    ensures names { IfOk result (λ scope. scope.names.now ≡ names.entry.now) }
-    ensures table { IfOk result IsTable }
+    ensures names { IfOk result (λ scope. scope.names ≡ names.entry.now) }
     ensures env { IfOk result (λ scope. env_of scope ≡ start_env (arguments_of names.entry.now arguments.now) symbols.now) }
 {
     let mut placing = Placing {

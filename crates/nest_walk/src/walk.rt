@@ -30,13 +30,13 @@ impl<'p> Model for Walk<'p> {
 
     ghost Value = { Walked };
 
-    ghost use Rattle.nest_walk.specs.Jobs.{all_actions, jobs_at, stand_of};
+    ghost use Rattle.nest_walk.specs.Jobs.{actions_left};
     ghost use Rattle.nest_walk.specs.Ready.{IsReady};
 
     ghost view = { λ w. record {
-      names = w.position.scope.names.now;
-      left = all_actions (jobs_at (stand_of w.position));
-      subscripts = w.position.subscripts.items;
+      names = w.position.scope.names;
+      left = actions_left w.position;
+      subscripts = w.position.subscripts;
     } };
 
     ghost invariant = { λ w. IsReady w.position };
@@ -47,14 +47,14 @@ impl<'p> Walk<'p> {
     pub fn names(&self) -> &'p [Name]
         ensures { result.now ≡ self.now.names }
     {
-        self.position.scope.names
+        self.position.names()
     }
 
     /// The subscripts of the last action where it is a raw access, in the order of its memref's dimensions.
     pub fn subscripts(&self) -> &[Operand]
         ensures { result.now ≡ self.now.subscripts }
     {
-        &self.position.subscripts
+        self.position.subscripts()
     }
 
     /// A walk over a program for these index arguments. It takes all the memory that the walk needs.
@@ -71,27 +71,20 @@ impl<'p> Walk<'p> {
         let Some(room) = room_needed(program.body.as_slice()) else {
             return Err(AllocError);
         };
-        let width = program.width as usize;
         let scope = placed(
             alloc,
             program.names.as_slice(),
             program.arguments.as_slice(),
             symbols,
         )?;
+        let width = program.width as usize;
         Ok(Walk {
-            position: Position {
-                frames: Vec::with_capacity(alloc, room)?,
-                rest: program.body.as_slice(),
-                scope,
-                numbers: Vec::with_capacity(alloc, width)?,
-                subscripts: Vec::with_capacity(alloc, width)?,
-            },
+            position: Position::new(alloc, program.body.as_slice(), scope, width, room)?,
         })
     }
 
     /// The next action, and nothing where none is left. It takes no memory. Where the action is a raw access, its subscripts are
     /// those of `subscripts` then.
-    #[tactic(auto, unfolding(crate::specs::Jobs::stand_of))]
     pub fn next(&mut self) -> Option<Action<'p>>
         ensures { Next result self.old self.new }
     {

@@ -1,3 +1,4 @@
+pub mod Bindings
 pub mod Looked
 pub mod Meant
 pub mod Values

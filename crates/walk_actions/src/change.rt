@@ -11,7 +11,7 @@ ghost use Rattle.valid_laws.specs.Safe.{SafePlain, IsMemref, new_home};
 ghost use Rattle.walk_program.specs.Names.{name_at};
 ghost use Rattle.walk_program.specs.Numbered.{PlainFits};
 ghost use Rattle.walk_program.specs.Reading.{plain_of};
-ghost use Rattle.walk_actions.specs.Looked.{env_of, IsTable};
+ghost use Rattle.walk_actions.specs.Looked.{env_of};
 ghost use Rattle.walk_actions.specs.Changed.{changed, ChangesIn};
 
 use crate::scope::Scope;
@@ -73,11 +73,10 @@ impl<'p> Scope<'p> {
     /// What a statement changes of what stands round the next one.
     #[tactic(auto, unfolding(walk_program::specs::Reading::plain_of, direct_meaning::specs::Actions::after_plain))]
     pub fn change(&self, plain: &Plain, room: &mut Vec<i64>) -> Change
-        requires table { IsTable self.now }
-        requires names { PlainFits (length self.now.names.now) (vec_capacity room.old) plain.now }
-        requires safe { SafePlain (env_of self.now) (plain_of self.now.names.now plain.now) }
-        ensures value { changed self.now.names.now result (env_of self.now) ≡ after_plain (plain_of self.now.names.now plain.now) (env_of self.now) }
-        ensures inside { ChangesIn (length self.now.names.now) result }
+        requires names { PlainFits (length self.now.names) (vec_capacity room.old) plain.now }
+        requires safe { SafePlain (env_of self.now) (plain_of self.now.names plain.now) }
+        ensures value { changed self.now.names result (env_of self.now) ≡ after_plain (plain_of self.now.names plain.now) (env_of self.now) }
+        ensures inside { ChangesIn (length self.now.names) result }
         ensures room { vec_capacity room.new ≡ vec_capacity room.old }
     {
         match plain {

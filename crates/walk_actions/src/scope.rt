@@ -7,22 +7,33 @@ ghost use Rattle.direct_meaning.specs.Memory.{empty_env};
 ghost use Rattle.walk_program.specs.Names.{name_at, AreDistinct};
 ghost use Rattle.walk_program.specs.Numbered.{Operands};
 ghost use Rattle.walk_program.specs.Reading.{names_at};
-ghost use Rattle.walk_actions.specs.Looked.{env_of, homes_meant, with_known, with_home, IsTable};
+ghost use Rattle.walk_actions.specs.Looked.{env_of, homes_meant, with_known, with_home};
 ghost use Rattle.walk_actions.specs.Meant.{operand_meant, OperandIn};
 
 use crate::action::{Home, Operand};
 use affine_ast::Name;
 use std::alloc::{AllocError, Global};
+use std::marker::Model;
 
 /// What stands round the next statement: of each name, by its number, the number that it has and the memref that it stands for, and
-/// how many allocations stand before in the text.
+/// how many allocations stand before in the text. A clause sees these bindings as lists; each name has an entry in both.
 #[derive(Drop)]
 pub struct Scope<'p> {
-    pub names: &'p [Name],
-    pub known: Vec<Option<i64>>,
-    pub homes: Vec<Option<Home>>,
-    pub fasts: u32,
-    pub tags: u32,
+    names: &'p [Name],
+    known: Vec<Option<i64>>,
+    homes: Vec<Option<Home>>,
+    fasts: u32,
+    tags: u32,
+}
+
+impl<'p> Model for Scope<'p> {
+    ghost use Rattle.walk_actions.specs.Bindings.{Bindings, HasEntries};
+
+    ghost Value = { Bindings };
+
+    ghost view = { λ s. record { names = s.names.now; known = s.known.items; homes = s.homes.items; fasts = s.fasts; tags = s.tags } };
+
+    ghost invariant = { λ s. HasEntries (record { names = s.names.now; known = s.known.items; homes = s.homes.items; fasts = s.fasts; tags = s.tags }) };
 }
 
 /// So many times nothing.
@@ -41,8 +52,7 @@ impl<'p> Scope<'p> {
     /// Nothing is known, and nothing allocated.
     pub fn new(alloc: Global, names: &'p [Name]) -> Result<Scope<'p>, AllocError>
         requires { AreDistinct names.now }
-        ensures names { IfOk result (λ scope. scope.names.now ≡ names.entry.now) }
-        ensures table { IfOk result IsTable }
+        ensures names { IfOk result (λ scope. scope.names ≡ names.entry.now) }
         ensures empty { IfOk result (λ scope. env_of scope ≡ empty_env) }
     {
         Ok(Scope {
@@ -54,28 +64,62 @@ impl<'p> Scope<'p> {
         })
     }
 
-    /// The number of a name that has one, or 0.
-    #[tactic(auto, using(crate::proofs::Tables::known_at))]
-    pub fn number(&self, name: u32) -> i64
-        requires table { IsTable self.now }
-        requires name { name < length self.now.names.now }
-        ensures { result ≡ number ((env_of self.now).known (name_at self.now.names.now name)) }
+    /// The names of the module, by number.
+    pub fn names(&self) -> &'p [Name]
+        ensures { result.now ≡ self.now.names }
     {
-        match self.known[name as usize] {
+        self.names
+    }
+
+    /// How many allocations in space 1 stand before in the text.
+    pub fn fasts(&self) -> u32
+        ensures { result ≡ self.now.fasts }
+    {
+        self.fasts
+    }
+
+    /// How many elements the allocations in space 2 have that stand before in the text.
+    pub fn tags(&self) -> u32
+        ensures { result ≡ self.now.tags }
+    {
+        self.tags
+    }
+
+    /// Goes where so many allocations stand before in the text.
+    pub fn set_counts(&mut self, fasts: u32, tags: u32)
+        ensures { self.new ≡ record self.old { fasts = fasts; tags = tags } }
+    {
+        self.fasts = fasts;
+        self.tags = tags;
+    }
+
+    /// The number of a name, where it has one.
+    #[tactic(auto, using(crate::proofs::Tables::known_at))]
+    pub fn known(&self, name: u32) -> Option<i64>
+        requires name { name < length self.now.names }
+        ensures { result ≡ (env_of self.now).known (name_at self.now.names name) }
+    {
+        self.known[name as usize]
+    }
+
+    /// The number of a name that has one, or 0.
+    pub fn number(&self, name: u32) -> i64
+        requires name { name < length self.now.names }
+        ensures { result ≡ number ((env_of self.now).known (name_at self.now.names name)) }
+    {
+        match self.known(name) {
             Some(number) => number,
             None => 0,
         }
     }
 
     /// What a use of a name is: its number where it has one.
-    #[tactic(auto, using(crate::proofs::Tables::known_at))]
     pub fn operand(&self, name: u32) -> Operand
-        requires table { IsTable self.now }
-        requires name { name < length self.now.names.now }
-        ensures value { operand_meant self.now.names.now result ≡ operand (env_of self.now) (name_at self.now.names.now name) }
-        ensures inside { OperandIn (length self.now.names.now) result }
+        requires name { name < length self.now.names }
+        ensures value { operand_meant self.now.names result ≡ operand (env_of self.now) (name_at self.now.names name) }
+        ensures inside { OperandIn (length self.now.names) result }
     {
-        match self.known[name as usize] {
+        match self.known(name) {
             Some(number) => Operand::Number(number),
             None => Operand::Register(name),
         }
@@ -84,18 +128,16 @@ impl<'p> Scope<'p> {
     /// What a memref's name stands for.
     #[tactic(auto, using(crate::proofs::Tables::home_at))]
     pub fn home(&self, name: u32) -> Option<Home>
-        requires table { IsTable self.now }
-        requires name { name < length self.now.names.now }
-        ensures { homes_meant result ≡ (env_of self.now).home (name_at self.now.names.now name) }
+        requires name { name < length self.now.names }
+        ensures { homes_meant result ≡ (env_of self.now).home (name_at self.now.names name) }
     {
         self.homes[name as usize]
     }
 
     /// The numbers of names, in order, in a list that has room for them.
     pub fn numbers(&self, names: &[u32], room: &mut Vec<i64>)
-        requires table { IsTable self.now }
-        requires names { Operands (length self.now.names.now) (vec_capacity room.old) names.now }
-        ensures values { room.new.items ≡ numbers (env_of self.now) (names_at self.now.names.now names.now) }
+        requires names { Operands (length self.now.names) (vec_capacity room.old) names.now }
+        ensures values { room.new.items ≡ numbers (env_of self.now) (names_at self.now.names names.now) }
         ensures capacity { vec_capacity room.new ≡ vec_capacity room.old }
     {
         room.clear();
@@ -107,12 +149,10 @@ impl<'p> Scope<'p> {
     /// Gives a name a number, or none, and answers what it had.
     #[tactic(auto, using(crate::proofs::Tables::writes))]
     pub fn know(&mut self, name: u32, number: Option<i64>) -> Option<i64>
-        requires table { IsTable self.old }
-        requires name { name < length self.old.names.now }
-        ensures env { env_of self.new ≡ with_known (name_at self.old.names.now name) number (env_of self.old) }
-        ensures before { result ≡ (env_of self.old).known (name_at self.old.names.now name) }
-        ensures names { self.new.names.now ≡ self.old.names.now }
-        ensures table { IsTable self.new }
+        requires name { name < length self.old.names }
+        ensures env { env_of self.new ≡ with_known (name_at self.old.names name) number (env_of self.old) }
+        ensures before { result ≡ (env_of self.old).known (name_at self.old.names name) }
+        ensures names { self.new.names ≡ self.old.names }
     {
         let before = self.known[name as usize];
         self.known[name as usize] = number;
@@ -122,12 +162,10 @@ impl<'p> Scope<'p> {
     /// Lets a name stand for a memref, or for none, and answers what it stood for.
     #[tactic(auto, using(crate::proofs::Tables::writes))]
     pub fn stand(&mut self, name: u32, home: Option<Home>) -> Option<Home>
-        requires table { IsTable self.old }
-        requires name { name < length self.old.names.now }
-        ensures env { env_of self.new ≡ with_home (name_at self.old.names.now name) (homes_meant home) (env_of self.old) }
-        ensures before { homes_meant result ≡ (env_of self.old).home (name_at self.old.names.now name) }
-        ensures names { self.new.names.now ≡ self.old.names.now }
-        ensures table { IsTable self.new }
+        requires name { name < length self.old.names }
+        ensures env { env_of self.new ≡ with_home (name_at self.old.names name) (homes_meant home) (env_of self.old) }
+        ensures before { homes_meant result ≡ (env_of self.old).home (name_at self.old.names name) }
+        ensures names { self.new.names ≡ self.old.names }
     {
         let before = self.homes[name as usize];
         self.homes[name as usize] = home;

@@ -12,7 +12,7 @@ ghost use Rattle.walk_program.specs.Names.{name_at};
 ghost use Rattle.walk_program.specs.Numbered.{Operands, StrideFits};
 ghost use Rattle.walk_program.specs.Reading.{names_at, stride_of};
 ghost use Rattle.walk_actions.specs.declared.action.Operand.{Operand as TheOperand};
-ghost use Rattle.walk_actions.specs.Looked.{env_of, IsTable};
+ghost use Rattle.walk_actions.specs.Looked.{env_of};
 ghost use Rattle.walk_actions.specs.Meant.{meant, place_meant, NamesNone};
 ghost use Rattle.walk_actions.specs.Values.{use_of};
 ghost use Rattle.walk_actions.specs.Transfers.{layout_meant, transfer_at, AreChunks, IsEnd, home_at, place_at_end, tag_at_end};
@@ -65,12 +65,11 @@ impl<'p> Scope<'p> {
     /// The count of a transfer, and how its elements lie.
     #[tactic(auto, using(crate::proofs::Lasts::chunkings))]
     fn chunks(&self, count: u32, stride: Option<(u32, u32)>) -> Chunks
-        requires table { IsTable self.now }
-        requires name { count < length self.now.names.now }
-        requires names { StrideFits (length self.now.names.now) stride }
-        requires count { IsCount ((env_of self.now).known (name_at self.now.names.now count)) }
-        requires safe { SafeChunks (env_of self.now) (stride_of self.now.names.now stride) }
-        ensures value { layout_meant result ≡ layout_of (env_of self.now) (name_at self.now.names.now count) (stride_of self.now.names.now stride) }
+        requires name { count < length self.now.names }
+        requires names { StrideFits (length self.now.names) stride }
+        requires count { IsCount ((env_of self.now).known (name_at self.now.names count)) }
+        requires safe { SafeChunks (env_of self.now) (stride_of self.now.names stride) }
+        ensures value { layout_meant result ≡ layout_of (env_of self.now) (name_at self.now.names count) (stride_of self.now.names stride) }
         ensures well { AreChunks result }
     {
         let count = self.count(count);
@@ -187,7 +186,6 @@ impl<'p> Scope<'p> {
         chunks: Chunks,
         room: &mut Vec<i64>,
     ) -> Action<'q>
-        requires table { IsTable self.now }
         requires from { IsEnd self.now (vec_capacity room.old) from }
         requires to { IsEnd self.now (vec_capacity room.old) to }
         requires tag { IsEnd self.now (vec_capacity room.old) tag }
@@ -237,16 +235,15 @@ impl<'p> Scope<'p> {
         types: &[MemrefType; 3],
         room: &mut Vec<i64>,
     ) -> Action<'q>
-        requires table { IsTable self.now }
-        requires from { (from.0 < length self.now.names.now) × Operands (length self.now.names.now) (vec_capacity room.old) from.1.now.operands }
-        requires to { (to.0 < length self.now.names.now) × Operands (length self.now.names.now) (vec_capacity room.old) to.1.now.operands }
-        requires tag { (tag.0 < length self.now.names.now) × Operands (length self.now.names.now) (vec_capacity room.old) tag.1.now.operands }
-        requires name { count < length self.now.names.now }
-        requires names { StrideFits (length self.now.names.now) stride }
-        requires types { SafeTypes (env_of self.now) (name_at self.now.names.now from.0) (use_of self.now from.1.now) (name_at self.now.names.now to.0) (use_of self.now to.1.now) (name_at self.now.names.now tag.0) (use_of self.now tag.1.now) types.now }
-        requires count { IsCount ((env_of self.now).known (name_at self.now.names.now count)) }
-        requires safe { SafeChunks (env_of self.now) (stride_of self.now.names.now stride) }
-        ensures value { (names : List TheName) (subscripts : List TheOperand) → meant names subscripts result ≡ start_of (env_of self.now) (name_at self.now.names.now from.entry.0) (use_of self.now from.entry.1.now) (name_at self.now.names.now to.entry.0) (use_of self.now to.entry.1.now) (name_at self.now.names.now tag.entry.0) (use_of self.now tag.entry.1.now) (layout_of (env_of self.now) (name_at self.now.names.now count) (stride_of self.now.names.now stride)) types.now }
+        requires from { (from.0 < length self.now.names) × Operands (length self.now.names) (vec_capacity room.old) from.1.now.operands }
+        requires to { (to.0 < length self.now.names) × Operands (length self.now.names) (vec_capacity room.old) to.1.now.operands }
+        requires tag { (tag.0 < length self.now.names) × Operands (length self.now.names) (vec_capacity room.old) tag.1.now.operands }
+        requires name { count < length self.now.names }
+        requires names { StrideFits (length self.now.names) stride }
+        requires types { SafeTypes (env_of self.now) (name_at self.now.names from.0) (use_of self.now from.1.now) (name_at self.now.names to.0) (use_of self.now to.1.now) (name_at self.now.names tag.0) (use_of self.now tag.1.now) types.now }
+        requires count { IsCount ((env_of self.now).known (name_at self.now.names count)) }
+        requires safe { SafeChunks (env_of self.now) (stride_of self.now.names stride) }
+        ensures value { (names : List TheName) (subscripts : List TheOperand) → meant names subscripts result ≡ start_of (env_of self.now) (name_at self.now.names from.entry.0) (use_of self.now from.entry.1.now) (name_at self.now.names to.entry.0) (use_of self.now to.entry.1.now) (name_at self.now.names tag.entry.0) (use_of self.now tag.entry.1.now) (layout_of (env_of self.now) (name_at self.now.names count) (stride_of self.now.names stride)) types.now }
         ensures inside { NamesNone result }
         ensures capacity { vec_capacity room.new ≡ vec_capacity room.old }
     {

@@ -7,8 +7,8 @@ use Rattle.walk_actions.proofs.scope.Scope.operands.Given as goal
 
 abbrev pub invariant-loop-name : goal.invariant-loop-name
 invariant-loop-name l = record {
-  values : map (operand_meant l.self.names.now) l.uses.items ≡ map (operand (env_of l.self)) (names_at l.self.names.now (take l.name-index l.names));
-  inside : All (OperandIn (length l.self.names.now)) l.uses.items;
+  values : map (operand_meant l.self.names) l.uses.items ≡ map (operand (env_of l.self)) (names_at l.self.names (take l.name-index l.names));
+  inside : All (OperandIn (length l.self.names)) l.uses.items;
   count : length l.uses.items ≡ l.name-index;
   capacity : vec_capacity l.uses ≡ vec_capacity l.fn.uses;
 }

@@ -1,8 +1,10 @@
-use Rattle.std.proofs.Common.{refl}
-use Rattle.std.specs.Vec.{with_item}
+use Rattle.std.proofs.Common.{ap, subst, set}
+use Rattle.walk_actions.specs.Bindings.{Bindings, HasEntries}
 use Rattle.walk_actions.proofs.Tables.{home_set}
 use Rattle.walk_actions.proofs.scope.Scope.stand.Goals as goal
 
 pub returns-clause-env : goal.returns-clause-env
 returns-clause-env c =
-    home_set c.args.self.now (record c.args.self.now { homes = with_item c.args.self.now.homes c.args.name c.args.home }) c.args.name c.args.home c.requires.table c.requires.name refl refl refl refl refl
+    let is = c.self.view_is in
+    home_set c.args.self.now _ c.args.name c.args.home (subst HasEntries is c.self.invariant) c.requires.name
+    (ap (λ (b : Bindings). b.names) is) (ap (λ (b : Bindings). set b.homes c.args.name c.args.home) is) (ap (λ (b : Bindings). b.known) is) (ap (λ (b : Bindings). b.fasts) is) (ap (λ (b : Bindings). b.tags) is)
