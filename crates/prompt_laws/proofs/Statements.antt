@@ -140,12 +140,12 @@ module _ (widths : List ℕ) (rooms : List Room) (filler : ℤ) (capacity : ℕ)
     -- an allocation, by its space
     alloc_takes : (r : Name) (ty : MemrefType) (y : Device) (t : Bool) → is_fast ty ≡ t → T a.scope e.home y → IsMemref (Some (new_home e ty)) ty → (t ≡ true → (e.fasts < length rooms) × (room_at rooms e.fasts ≡ room_of ty.element ty.sizes))
         → Takes (put a.scope r (Some (Allocation ty))) (if t then record e { home = put e.home r (Some (FastMemref e.fasts)); fasts = suc e.fasts } else record e { home = put e.home r (Some (TagMemref e.tags)); tags = e.tags + product ty.sizes }).home
-            (if t then Allocates e.fasts ty.element ty.sizes else AllocatesTags e.tags (product ty.sizes)) y
+        (if t then Allocates e.fasts ty.element ty.sizes else AllocatesTags e.tags (product ty.sizes)) y
     unfolding acts
     alloc_takes r ty y true q t m room =
         let k = room refl in
         let stands : IsMemref (Some (FastMemref e.fasts)) ty = subst (λ b. IsMemref (Some (if b then FastMemref e.fasts else TagMemref e.tags)) ty) q m in
-        (can_act _ a.scope e.home y t tt (record { there = k.0; room = k.1; few = stands.stands.cells_fit }), alloc_ends widths rooms capacity a.scope e.home y t filler r e.fasts ty k.1)
+        (can_act _ a.scope e.home y t tt (record { there = k.0; room = k.1; sizes_fit = record { positive = stands.sizes; few = stands.stands.cells_fit } }), alloc_ends widths rooms capacity a.scope e.home y t filler r e.fasts ty k.1)
     alloc_takes r ty y false q t m room = (can_act _ a.scope e.home y t tt tt, tags_more widths rooms capacity a.scope e.home y t r e.tags ty)
 
     alloc_room : (ty : MemrefType) → is_fast ty ≡ true → Laid rooms e.fasts (if is_fast ty then room_of ty.element ty.sizes ∷ [] else []) → (e.fasts < length rooms) × (room_at rooms e.fasts ≡ room_of ty.element ty.sizes)
@@ -161,7 +161,7 @@ module _ (widths : List ℕ) (rooms : List Room) (filler : ℤ) (capacity : ℕ)
     dealloc_takes None ty y t m = absurd m.stands
     dealloc_takes (Some (SlowMemref number first)) ty y t m = (can_act _ a.scope e.home y t tt tt, t)
     dealloc_takes (Some (FastMemref k)) ty y t m =
-        (can_act _ a.scope e.home y t tt m.stands.cells_fit, tested widths rooms capacity (T a.scope e.home) (has_away y.outstanding k) Touched y _ t.typed.cells (λ q. released_holds widths rooms capacity a.scope e.home y t _))
+        (can_act _ a.scope e.home y t tt (record { positive = m.sizes; few = m.stands.cells_fit }), tested widths rooms capacity (T a.scope e.home) (has_away y.outstanding k) Touched y _ t.typed.cells (λ q. released_holds widths rooms capacity a.scope e.home y t _))
     dealloc_takes (Some (TagMemref first)) ty y t m =
         (can_act _ a.scope e.home y t tt tt, tested widths rooms capacity (T a.scope e.home) (has_started y.outstanding first (product ty.sizes)) Tag y _ t.typed.cells (λ q. t))
 
@@ -176,17 +176,19 @@ module _ (widths : List ℕ) (rooms : List Room) (filler : ℤ) (capacity : ℕ)
 
     started_takes : (bits : ℕ) (u : Transfer) (y : Device) (t : T a.scope e.home y) → StartFits widths rooms capacity a.scope e.home y t bits u → Takes a.scope e.home (Starts u) y
     unfolding acts
-    started_takes bits u y t k =
-        (can_act _ a.scope e.home y t tt (record {
-          half = record { there = k.half.there; half_there = k.half.half_there; long = k.half.half.long };
-          inside = k.inside;
-          tag_fits = k.tag_fits;
-          some = k.some;
-          some_chunk = k.some_chunk;
-          apart = k.apart;
-          places = λ i below. subst (λ n. slow_place u i < n) (sym t.typed.cells.long) (k.places i below).0;
-          places_fit = k.places_fit;
-        }), start_ends widths rooms capacity a.scope e.home y t bits u k)
+    started_takes bits u y t k = (
+      can_act _ a.scope e.home y t tt (record {
+        half = record { there = k.half.there; half_there = k.half.half_there; long = k.half.half.long };
+        inside = k.inside;
+        tag_fits = k.tag_fits;
+        some = k.some;
+        some_chunk = k.some_chunk;
+        apart = k.apart;
+        places = λ i below. subst (λ n. slow_place u i < n) (sym t.typed.cells.long) (k.places i below).0;
+        places_fit = k.places_fit;
+      }),
+      start_ends widths rooms capacity a.scope e.home y t bits u k,
+    )
 
     start_takes : (x : Name) (xa : Access) (z : Name) (za : Access) (u : Name) (ua : Access) (n : Name) (stride : Option (Name × Name)) (types : List MemrefType) (y : Device)
         → SafeTypes e x xa z za u ua types → IsCount (e.known n) → SafeChunks e stride → ends_typed a.scope x z u types ≡ true → T a.scope e.home y → Takes a.scope e.home (action_of (Start x xa z za u ua n stride types) e) y

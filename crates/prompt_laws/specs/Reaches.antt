@@ -1,5 +1,6 @@
 -- What an executor may rely on at each action of a run of the prompt meaning.
 use Rattle.std.specs.Prelude.{◌≡◌, ℕ, ◌+◌, ◌≤◌, ◌<◌, ℤ, false, List, [], ◌∷◌, length}
+use Rattle.std.specs.List.{All}
 use Rattle.affine_ast.specs.declared.types.Element.{Element}
 use Rattle.affine_ast.specs.Sizes.{product}
 use Rattle.bus_model.specs.declared.transfer.Transfer.{Transfer}
@@ -34,18 +35,23 @@ pub record StartIn (rooms : List Room) (y : Device) (t : Transfer) : Type 0 wher
   pub places : (e : ℕ) → e < t.count → slow_place t e < length y.state.slow
   pub places_fit : (e : ℕ) → e < t.count → slow_place t e < 1048576
 
+-- the sizes of an allocation
+pub record SizesFit (sizes : List ℕ) : Type 0 where
+  pub positive : All (λ n. 1 ≤ n) sizes
+  pub few : product sizes ≤ 16777216
+
 -- an allocation by its number
 pub record AllocIn (rooms : List Room) (number : ℕ) (element : Element) (sizes : List ℕ) : Type 0 where
   pub there : number < length rooms
   pub room : room_at rooms number ≡ room_of element sizes
-  pub few : product sizes ≤ 16777216
+  pub sizes_fit : SizesFit sizes
 
 -- an action with its operands read reaches what there is
 abbrev pub Reaches : List Room → Action → Device → Type 0
 Reaches rooms (Loads r place) y = PlaceIn rooms y place
 Reaches rooms (Stores x place) y = PlaceIn rooms y place
 Reaches rooms (Allocates number element sizes) y = AllocIn rooms number element sizes
-Reaches rooms (Releases number element sizes) y = product sizes ≤ 16777216
+Reaches rooms (Releases number element sizes) y = SizesFit sizes
 Reaches rooms (Starts t) y = StartIn rooms y t
 Reaches rooms a y = Unit {0}
 
