@@ -12,7 +12,7 @@ use indexmap::IndexMap;
 use std::alloc::{AllocError, Global};
 
 /// The range of an index argument.
-fn range_or(range: Option<Interval>) -> Interval
+pub fn range_or(range: Option<Interval>) -> Interval
     ensures { result ≡ range_or range }
 {
     match range {
