@@ -1,21 +1,6 @@
-// What a plan decides, and the regions that it places.
+// What a plan decides.
+use crate::region::Region;
 use affine_ast::Path;
-
-/// The place of a memref's box at each turn of the loops round a loop, dimension by dimension.
-#[derive(Drop)]
-pub struct Region {
-    pub dims: Vec<RegionDim>,
-}
-
-/// One dimension of a box: it begins at the combination of the symbols and the loops round, plus the offset, and where it is
-/// clamped at what of this lies from 0 to the size less the extent.
-#[derive(Drop)]
-pub struct RegionDim {
-    pub coefs: Vec<i128>,
-    pub offset: i128,
-    pub extent: u32,
-    pub clamped: bool,
-}
 
 /// What a user asks of a plan: how deep the copies stand, whether transfers do them, whether they are doubled and in how many
 /// buffers, and how many bytes of fast memory there are.

@@ -10,10 +10,11 @@ use affine_expr::{Combination, LinearFault};
 use affine_rules::Key;
 use indexmap::IndexMap;
 use module_work::ranges::key_of;
+use name_hash::NameHashing;
 use std::alloc::AllocError;
 
 /// The forms of names; a name that isn't in the table, or has none there, has no form.
-pub type Forms<'a> = IndexMap<Key<'a>, Option<Combination>>;
+pub type Forms<'a> = IndexMap<Key<'a>, Option<Combination>, NameHashing>;
 
 /// An equal form.
 pub fn copied(form: &Combination) -> Result<Combination, LinearFault>

@@ -5,6 +5,7 @@
 #![tactic(auto)]
 
 ghost use Rattle.order_meaning.specs.Law.{AllOrdersAgree};
+ghost use Rattle.order_meaning.specs.Listed.{ListsEnabled, ListsOne};
 ghost use Rattle.order_meaning.specs.Parts.{AgreesInParts};
 ghost use Rattle.order_meaning.specs.Worked.{WorkedRun};
 
@@ -21,4 +22,14 @@ pub fn worked_run()
 /// What the agreement says of slow memory, of the lists of transfers, of engines and of halves, part by part.
 pub fn agrees_in_parts()
     ensures { AgreesInParts }
+{}
+
+/// In each state of a run the list of its steps has exactly those that are enabled.
+pub fn lists_enabled()
+    ensures { ListsEnabled }
+{}
+
+/// A state has one list of enabled steps.
+pub fn lists_one()
+    ensures { ListsOne }
 {}
