@@ -48,11 +48,7 @@ pub fn first_turn<'a>(
 
 /// The last end that an upper bound allows.
 #[tactic(auto, unfolding(affine_ast::specs::Intervals::last_end))]
-pub fn last_end<'a>(
-    alloc: Global,
-    table: &Ranges<'a>,
-    bound: &'a Bound,
-) -> Result<i64, AllocError>
+pub fn last_end<'a>(alloc: Global, table: &Ranges<'a>, bound: &'a Bound) -> Result<i64, AllocError>
     requires { WorkableBound (ranges_of table.now.entries) bound.now }
     ensures { IfOk result (λ end. end ≡ last_end (ranges_of table.now.entries) bound.now) }
 {

@@ -98,10 +98,7 @@ pub fn define<'a>(
 }
 
 /// Gives the names the intervals that they had, the last one first.
-pub fn restore<'a>(
-    ranges: &mut Ranges<'a>,
-    mut before: Vec<Before<'a>>,
-) -> Result<(), AllocError>
+pub fn restore<'a>(ranges: &mut Ranges<'a>, mut before: Vec<Before<'a>>) -> Result<(), AllocError>
     ensures { OnOk result (ranges_of ranges.new.entries ≡ put_back before.entry.items (ranges_of ranges.old.entries)) }
 {
     while let Some(Before { name, interval }) = before.pop() {
