@@ -103,7 +103,7 @@ whole_ready p q frame is others ready = subst IsReady (sym (whole_standing p q f
 
 pub none_open : (p : Standing) → p.rest ≡ [] → p.frames ≡ [] → actions_left p ≡ []
 unfolding jobs_of
-none_open p empty none = left_empty (stand_of p) empty ∙ ap (λ fs. all_actions (jobs_of p.scope.names fs (env_of p.scope))) none
+none_open p empty none = left_empty (stand_of p) empty ∙ ap (λ fs. all_actions (jobs_of p.bindings.names fs (env_of p.bindings))) none
 
 pub none_standing : (p q : Standing) → p.frames ≡ q.frames → q ≡ record p { frames = q.frames } → q ≡ p
 none_standing p q is others = others ∙ (λ i. record p { frames = sym is i })
@@ -114,16 +114,16 @@ known_again s a n before sound empty p =
     let whole : Stand = record s { frames = on.Known n before ∷ s.frames } in
     subst (Skips whole) (sym p) (back_known whole n before s.frames sound empty refl)
 
-pub placed_again : (s a : Stand) (n : ℕ) (before : Option Home) → IsSound (record s { frames = on.Placed n before ∷ s.frames }) → s.rest ≡ [] → a ≡ record s { env = with_home (name_at s.names n) (homes_meant before) s.env } → Skips (record s { frames = on.Placed n before ∷ s.frames }) a
+pub placed_again : (s a : Stand) (n : ℕ) (before : Option Home) → IsSound (record s { frames = on.Memref n before ∷ s.frames }) → s.rest ≡ [] → a ≡ record s { env = with_home (name_at s.names n) (homes_meant before) s.env } → Skips (record s { frames = on.Memref n before ∷ s.frames }) a
 placed_again s a n before sound empty p =
-    let whole : Stand = record s { frames = on.Placed n before ∷ s.frames } in
+    let whole : Stand = record s { frames = on.Memref n before ∷ s.frames } in
     subst (Skips whole) (sym p) (back_placed whole n before s.frames sound empty refl)
 
 pub known_inside : (s : Stand) (n : ℕ) (before : Option ℤ) → IsSound (record s { frames = on.Known n before ∷ s.frames }) → n < length s.names
 unfolding Stacked
 known_inside s n before sound = sound.stacked.0
 
-pub placed_inside : (s : Stand) (n : ℕ) (before : Option Home) → IsSound (record s { frames = on.Placed n before ∷ s.frames }) → n < length s.names
+pub placed_inside : (s : Stand) (n : ℕ) (before : Option Home) → IsSound (record s { frames = on.Memref n before ∷ s.frames }) → n < length s.names
 unfolding Stacked
 placed_inside s n before sound = sound.stacked.0
 
@@ -191,31 +191,31 @@ opened_at p q frames e is opens =
     }
 
 -- a name that had no number has none now
-pub bound_same : (p q : Standing) (n : ℕ) (z before : Option ℤ) → IsReady p → Under p q (with_known (name_at p.scope.names n) z (env_of p.scope)) → None ≡ before → None ≡ z → before ≡ (env_of p.scope).known (name_at p.scope.names n)
-    → Opened p q (with_known (name_at p.scope.names n) z (env_of p.scope))
+pub bound_same : (p q : Standing) (n : ℕ) (z before : Option ℤ) → IsReady p → Under p q (with_known (name_at p.bindings.names n) z (env_of p.bindings)) → None ≡ before → None ≡ z → before ≡ (env_of p.bindings).known (name_at p.bindings.names n)
+    → Opened p q (with_known (name_at p.bindings.names n) z (env_of p.bindings))
 bound_same p q n z before ready at b none was =
     let s = stand_of p in
     opened_at p q s.frames (with_known (name_at s.names n) z s.env) (under_stand p q (with_known (name_at s.names n) z s.env) at) (subst (λ y. Opens s s.frames (with_known (name_at s.names n) y s.env)) none (opens_same s n ready (b ∙ was)))
 
 -- what a name had is put down
-pub bound_new : (p a q : Standing) (n : ℕ) (z before : Option ℤ) → IsReady p → n < length p.scope.names → length p.frames + 1 ≤ p.capacity → Under p a (with_known (name_at p.scope.names n) z (env_of p.scope)) → before ≡ (env_of p.scope).known (name_at p.scope.names n)
-    → q ≡ record a { frames = on.Known n before ∷ a.frames } → Opened p q (with_known (name_at p.scope.names n) z (env_of p.scope))
+pub bound_new : (p a q : Standing) (n : ℕ) (z before : Option ℤ) → IsReady p → n < length p.bindings.names → length p.frames + 1 ≤ p.capacity → Under p a (with_known (name_at p.bindings.names n) z (env_of p.bindings)) → before ≡ (env_of p.bindings).known (name_at p.bindings.names n)
+    → q ≡ record a { frames = on.Known n before ∷ a.frames } → Opened p q (with_known (name_at p.bindings.names n) z (env_of p.bindings))
 bound_new p a q n z before ready inside room_ at was is =
     let s = stand_of p in
     let e = with_known (name_at s.names n) z s.env in
     opened_at p q (on.Known n before ∷ s.frames) e (ap stand_of is ∙ ap {B = Stand} (λ (m : Stand). record m { frames = on.Known n before ∷ m.frames }) (under_stand p a e at)) (opens_known s n z before ready inside room_ was)
 
-pub placed_new : (p a b q : Standing) (n : ℕ) (home : Option Home) (before : Option Home) (f g : ℕ) → IsReady p → n < length p.scope.names → length p.frames + 1 ≤ p.capacity → Under p a (with_home (name_at p.scope.names n) (homes_meant home) (env_of p.scope))
-    → homes_meant before ≡ (env_of p.scope).home (name_at p.scope.names n) → b ≡ record a { scope = record a.scope { fasts = f; tags = g } } → q ≡ record b { frames = on.Placed n before ∷ b.frames }
-    → Opened p q (at_numbers f g (with_home (name_at p.scope.names n) (homes_meant home) (env_of p.scope)))
+pub placed_new : (p a b q : Standing) (n : ℕ) (home : Option Home) (before : Option Home) (f g : ℕ) → IsReady p → n < length p.bindings.names → length p.frames + 1 ≤ p.capacity → Under p a (with_home (name_at p.bindings.names n) (homes_meant home) (env_of p.bindings))
+    → homes_meant before ≡ (env_of p.bindings).home (name_at p.bindings.names n) → b ≡ record a { bindings = record a.bindings { fasts = f; tags = g } } → q ≡ record b { frames = on.Memref n before ∷ b.frames }
+    → Opened p q (at_numbers f g (with_home (name_at p.bindings.names n) (homes_meant home) (env_of p.bindings)))
 placed_new p a b q n home before f g ready inside room_ at was r is =
     let s = stand_of p in
     let e = with_home (name_at s.names n) (homes_meant home) s.env in
     let to_b : stand_of b ≡ record s { env = at_numbers f g e } = ap stand_of r ∙ ap {B = Stand} (λ (m : Stand). record m { env = at_numbers f g m.env }) (under_stand p a e at) in
-    opened_at p q (on.Placed n before ∷ s.frames) (at_numbers f g e) (ap stand_of is ∙ ap {B = Stand} (λ (m : Stand). record m { frames = on.Placed n before ∷ m.frames }) to_b) (opens_placed s n home before f g ready inside room_ was)
+    opened_at p q (on.Memref n before ∷ s.frames) (at_numbers f g e) (ap stand_of is ∙ ap {B = Stand} (λ (m : Stand). record m { frames = on.Memref n before ∷ m.frames }) to_b) (opens_placed s n home before f g ready inside room_ was)
 
-pub same_kept : (p : Standing) → IsReady p → Opened p p (env_of p.scope)
-same_kept p ready = opened_at p p p.frames (env_of p.scope) refl (opens_nothing (stand_of p) ready)
+pub same_kept : (p : Standing) → IsReady p → Opened p p (env_of p.bindings)
+same_kept p ready = opened_at p p p.frames (env_of p.bindings) refl (opens_nothing (stand_of p) ready)
 
 -- the room stays, whatever the subscripts
 resubscripted : (s : Stand) (uses : List Operand) → IsSound s → IsSound (record s { subscripts = uses })
@@ -231,7 +231,7 @@ acts_from s t uses action h = record { sound = h.sound; left = h.left; names = h
 
 -- a plain statement's action, its change and its rest, from the moves that they are made of
 pub acted_at : (p b c d : Standing) (line : ℕ) (plain : Plain) (rest : Bor (List Statement)) (e : Env) (action : Action) → IsReady p → tree p.rest ≡ Does line plain (tree rest.now)
-    → b ≡ record p { subscripts = b.subscripts } → e ≡ after_plain (plain_of p.scope.names plain) (env_of p.scope) → Opened b c e → d ≡ record c { rest = rest.now } → action ≡ action_of (plain_of p.scope.names plain) (env_of p.scope) → Acted p d action
+    → b ≡ record p { subscripts = b.subscripts } → e ≡ after_plain (plain_of p.bindings.names plain) (env_of p.bindings) → Opened b c e → d ≡ record c { rest = rest.now } → action ≡ action_of (plain_of p.bindings.names plain) (env_of p.bindings) → Acted p d action
 acted_at p b c d line plain rest e action ready is q after_ opened r means =
     let s = stand_of p in
     let there : Stand = record s { subscripts = b.subscripts } in
@@ -278,9 +278,9 @@ plain_there statements first rest p is f = first_tree statements first rest _ is
 
 -- ---- the beginning
 
-pub begins : (p : Standing) (scope : Bindings) (names : List Name) (body : List Statement) (e : Env) (width : ℕ) → p ≡ record { frames = []; rest = body; scope = scope; subscripts = []; width = width; uses = width; capacity = room body } → scope.names ≡ names → env_of scope ≡ e
+pub begins : (p : Standing) (bindings : Bindings) (names : List Name) (body : List Statement) (e : Env) (width : ℕ) → p ≡ record { frames = []; rest = body; bindings = bindings; subscripts = []; width = width; uses = width; capacity = room body } → bindings.names ≡ names → env_of bindings ≡ e
     → stand_of p ≡ record { names = names; frames = []; rest = body; env = e; subscripts = []; width = width; uses = width; capacity = room body }
-begins p scope names body e width is n v = ap stand_of is ∙ (λ i. record { names = n i; frames = []; rest = body; env = v i; subscripts = []; width = width; uses = width; capacity = room body })
+begins p bindings names body e width is n v = ap stand_of is ∙ (λ i. record { names = n i; frames = []; rest = body; env = v i; subscripts = []; width = width; uses = width; capacity = room body })
 
 pub begin_sound : (names : List Name) (body : List Statement) (e : Env) (width : ℕ) (uses : List Operand) → Numbered (length names) width (tree body) → Counted names (tree body) → SafeNest (nest_of names (tree body)) e
     → IsSound (record { names = names; frames = []; rest = body; env = e; subscripts = uses; width = width; uses = width; capacity = room body })

@@ -1,6 +1,7 @@
 // The moves of a walk: back to what is open below, into loops and conditions, and over plain statements.
 
-ghost use Rattle.std.specs.Prelude.{◌≡◌, ◌+◌, ◌<◌, ◌≤◌, ℕ, Bool, List, [], ◌∷◌, length, vec_capacity, Option, None, Some, true, false, pos, ◌+ℤ◌, ◌<ℤ◌, ◌≤ℤ◌};
+ghost use Rattle.std.specs.Prelude.{◌≡◌, ◌+◌, ◌<◌, ◌≤◌, ℕ, Bool, List, [], ◌∷◌, length, vec_capacity, Option, None};
+ghost use Rattle.std.specs.Prelude.{Some, true, false, pos, ◌+ℤ◌, ◌<ℤ◌, ◌≤ℤ◌};
 ghost use Rattle.affine_ast.specs.declared.name.Name.{Name as TheName};
 ghost use Rattle.direct_meaning.specs.Turns.{turns};
 ghost use Rattle.direct_meaning.specs.Actions.{action_of};
@@ -14,7 +15,7 @@ ghost use Rattle.walk_actions.specs.Meant.{meant, NamesIn};
 ghost use Rattle.nest_walk.specs.declared.frame.Frame.TheVariants as on;
 ghost use Rattle.nest_walk.specs.Jobs.{at_numbers, actions_left};
 ghost use Rattle.nest_walk.specs.Ready.{IsReady, Moved, Opened, Acted, Steps};
-ghost use Rattle.nest_walk.specs.Stepped.{IsStep, Advances};
+ghost use Rattle.nest_walk.specs.Advances.{Advances};
 
 use crate::frame::Frame;
 use crate::position::Position;
@@ -37,14 +38,6 @@ fn later(at: i64, upper: i64, step: i64) -> i64
         Some(next) => next,
         None => upper,
     }
-}
-
-/// A step of a walk: to an action, on the way to one, or none where all is done.
-#[derive(Clone, Copy)]
-pub enum Step<'p> {
-    Acts(Action<'p>),
-    Skips,
-    Ends,
 }
 
 impl<'p> Position<'p> {
@@ -71,9 +64,14 @@ impl<'p> Position<'p> {
         inside: Counts,
         body: &'p [Statement],
     )
-        requires ready { IsReady (record self.old { frames = on.Turns var before at upper step start inside body ∷ self.old.frames }) }
+        requires ready { IsReady (record self.old {
+          frames = on.Turns var before at upper step start inside body ∷ self.old.frames;
+        }) }
         requires empty { self.old.rest ≡ [] }
-        ensures { Moved (record self.old { frames = on.Turns var before at upper step start inside body.entry ∷ self.old.frames }) self.new }
+        ensures { Moved (record self.old {
+          frames = on.Turns var before at upper step start inside body.entry
+              ∷ self.old.frames;
+        }) self.new }
     {
         if at < upper {
             let next = later(at, upper, step);
@@ -107,9 +105,9 @@ impl<'p> Position<'p> {
 
     /// A name stands again for what it stood for.
     fn stand_again(&mut self, name: u32, before: Option<Home>)
-        requires ready { IsReady (record self.old { frames = on.Placed name before ∷ self.old.frames }) }
+        requires ready { IsReady (record self.old { frames = on.Memref name before ∷ self.old.frames }) }
         requires empty { self.old.rest ≡ [] }
-        ensures { Moved (record self.old { frames = on.Placed name before ∷ self.old.frames }) self.new }
+        ensures { Moved (record self.old { frames = on.Memref name before ∷ self.old.frames }) self.new }
     {
         self.stand(name, before);
     }
@@ -123,7 +121,7 @@ impl<'p> Position<'p> {
         match frame {
             Frame::Rest { statements, passed } => self.pass(statements, passed),
             Frame::Known { name, before } => self.know_again(name, before),
-            Frame::Placed { name, before } => self.stand_again(name, before),
+            Frame::Memref { name, before } => self.stand_again(name, before),
             Frame::Turns {
                 var,
                 before,
@@ -166,7 +164,8 @@ impl<'p> Position<'p> {
         rest: &'p [Statement],
     )
         requires ready { IsReady self.old }
-        requires there { (line : ℕ) × (tree self.old.rest ≡ Loop line var lower.now upper.now step inside (tree body.now) (tree rest.now)) }
+        requires there { (line : ℕ) × (tree self.old.rest
+            ≡ Loop line var lower.now upper.now step inside (tree body.now) (tree rest.now)) }
         ensures { Moved self.old self.new }
     {
         let at = self.lower(lower);
@@ -202,7 +201,9 @@ impl<'p> Position<'p> {
         rest: &'p [Statement],
     )
         requires ready { IsReady self.old }
-        requires there { (line : ℕ) × (has : Bool) × (tree self.old.rest ≡ Branch line set.now operands.now (tree first.now) first_inside has (tree other.now) other_inside (tree rest.now)) }
+        requires there { (line : ℕ) × (has : Bool) × (tree self.old.rest
+            ≡ Branch line set.now operands.now (tree first.now) first_inside has (tree other.now) other_inside
+            (tree rest.now)) }
         ensures { Moved self.old self.new }
     {
         if self.holds(set, operands) {
@@ -228,9 +229,10 @@ impl<'p> Position<'p> {
     /// Gives a name a number, or none, and puts down what it had, where it had one or has one now.
     fn bind(&mut self, name: u32, number: Option<i64>)
         requires ready { IsReady self.old }
-        requires name { name < length self.old.scope.names }
+        requires name { name < length self.old.bindings.names }
         requires room { length self.old.frames + 1 ≤ self.old.capacity }
-        ensures { Opened self.old self.new (with_known (name_at self.old.scope.names name) number (env_of self.old.scope)) }
+        ensures { Opened self.old self.new (with_known (name_at self.old.bindings.names name) number
+            (env_of self.old.bindings)) }
     {
         let before = self.know(name, number);
         if before.is_none() {
@@ -244,22 +246,23 @@ impl<'p> Position<'p> {
     /// Lets a name stand for an allocation, puts down what it stood for, and counts what is allocated then.
     fn place(&mut self, name: u32, home: Home, fasts: u32, tags: u32)
         requires ready { IsReady self.old }
-        requires name { name < length self.old.scope.names }
+        requires name { name < length self.old.bindings.names }
         requires room { length self.old.frames + 1 ≤ self.old.capacity }
-        ensures { Opened self.old self.new (at_numbers fasts tags (with_home (name_at self.old.scope.names name) (homes_meant (Some home)) (env_of self.old.scope))) }
+        ensures { Opened self.old self.new (at_numbers fasts tags
+            (with_home (name_at self.old.bindings.names name) (homes_meant (Some home)) (env_of self.old.bindings))) }
     {
         let before = self.stand(name, Some(home));
         self.count(fasts, tags);
-        self.push(Frame::Placed { name, before });
+        self.push(Frame::Memref { name, before });
     }
 
     /// Makes known what a plain statement does.
     fn change(&mut self, change: Change)
         requires ready { IsReady self.old }
-        requires inside { ChangesIn (length self.old.scope.names) change }
-        requires fits { CountsFit (changed self.old.scope.names change (env_of self.old.scope)) }
+        requires inside { ChangesIn (length self.old.bindings.names) change }
+        requires fits { CountsFit (changed self.old.bindings.names change (env_of self.old.bindings)) }
         requires room { length self.old.frames + 1 ≤ self.old.capacity }
-        ensures { Opened self.old self.new (changed self.old.scope.names change (env_of self.old.scope)) }
+        ensures { Opened self.old self.new (changed self.old.bindings.names change (env_of self.old.bindings)) }
     {
         let Counts { fasts, tags } = self.counts();
         match change {
@@ -274,8 +277,8 @@ impl<'p> Position<'p> {
     pub fn act(&mut self, plain: &'p Plain, rest: &'p [Statement]) -> Action<'p>
         requires ready { IsReady self.old }
         requires there { (line : ℕ) × (tree self.old.rest ≡ Does line plain.now (tree rest.now)) }
-        ensures acted { Acted self.old self.new (meant self.old.scope.names self.new.subscripts result) }
-        ensures inside { NamesIn (length self.old.scope.names) self.new.subscripts result }
+        ensures acted { Acted self.old self.new (meant self.old.bindings.names self.new.subscripts result) }
+        ensures inside { NamesIn (length self.old.bindings.names) self.new.subscripts result }
     {
         let action = self.action(plain);
         let change = self.change_of(plain);
@@ -329,31 +332,19 @@ impl<'p> Position<'p> {
         }
     }
 
-    /// Takes a step: to the next action, or on the way to it. Nothing where no action is left.
-    pub fn step(&mut self) -> Step<'p>
-        requires { IsReady self.old }
-        ensures { IsStep result self.old self.new }
-    {
-        let statements = self.rest();
-        if statements.is_empty() {
-            return if self.back() { Step::Skips } else { Step::Ends };
-        }
-        match self.start(&statements[0], &statements[1..]) {
-            Some(action) => Step::Acts(action),
-            None => Step::Skips,
-        }
-    }
-
     /// Goes to the next action. Nothing where no action is left.
     pub fn advance(&mut self) -> Option<Action<'p>>
         requires { IsReady self.old }
         ensures { Advances result self.old self.new }
     {
-        loop {
-            match self.step() {
-                Step::Acts(action) => return Some(action),
-                Step::Ends => return None,
-                Step::Skips => {}
+        'moves: loop {
+            let statements = self.rest();
+            if statements.is_empty() {
+                if !self.back() {
+                    return None;
+                }
+            } else if let Some(action) = self.start(&statements[0], &statements[1..]) {
+                return Some(action);
             }
         }
     }

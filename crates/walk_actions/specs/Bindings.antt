@@ -4,8 +4,8 @@ use Rattle.affine_ast.specs.declared.name.Name.{Name}
 use Rattle.walk_program.specs.Names.{AreDistinct}
 use Rattle.walk_actions.specs.declared.action.Home.{Home}
 
--- the names of a module; the number that each has, and the memref that it stands for, at its own number; how many allocations
--- stand before in the text
+-- the names of a module; the number that each has, and the memref that it stands for, at its own number; how many
+-- allocations stand before in the text
 pub record Bindings : Type 0 where
   pub names : List Name
   pub known : List (Option ℤ)

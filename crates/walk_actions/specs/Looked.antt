@@ -33,6 +33,14 @@ env_of b = record {
   tags = b.tags;
 }
 
+-- the number that a name has, by the name's number
+abbrev pub known_of : Bindings → ℕ → Option ℤ
+known_of b k = (env_of b).known (name_at b.names k)
+
+-- the memref that a name stands for, by the name's number
+abbrev pub home_of : Bindings → ℕ → Option meaning.Home
+home_of b k = (env_of b).home (name_at b.names k)
+
 -- the numbers of names, by the names' numbers
 unfoldable pub numbers_at : Bindings → List ℕ → List ℤ
 numbers_at b ks = map (λ k. number ((env_of b).known (name_at b.names k))) ks

@@ -27,7 +27,18 @@ pub record AreChunks (c : Chunks) : Type 0 where
 -- a transfer of this layout
 abbrev pub transfer_at : Bool → ℕ → ℕ → ℕ → Chunks → ℕ → ℕ → ℕ → Transfer
 transfer_at incoming tag memref base c fast half offset =
-    record { incoming = incoming; tag = tag; memref = memref; base = base; stride = c.stride; chunk = c.chunk; count = c.count; fast = fast; half = half; offset = offset }
+    record {
+      incoming = incoming;
+      tag = tag;
+      memref = memref;
+      base = base;
+      stride = c.stride;
+      chunk = c.chunk;
+      count = c.count;
+      fast = fast;
+      half = half;
+      offset = offset;
+    }
 
 -- an end that may be evaluated, with room for the operands of its subscripts
 pub record IsEnd (s : Bindings) (room : ℕ) (end : End) : Type 0 where

@@ -2,7 +2,8 @@
 
 ghost use Rattle.std.specs.Prelude.{◌≡◌, ◌<◌, ◌≤◌, ℕ, ◌+◌, length, vec_capacity, take, drop};
 ghost use Rattle.affine_expr.specs.Bounded.{AllEvaluable};
-ghost use Rattle.direct_meaning.specs.Static.{numbers, results_of, least, greatest, picked, lower_of, upper_of, holds_at};
+ghost use Rattle.direct_meaning.specs.Static.{numbers, results_of, least, greatest, picked, lower_of, upper_of};
+ghost use Rattle.direct_meaning.specs.Static.{holds_at};
 ghost use Rattle.affine_ast.specs.declared.types.Pick.TheVariants.{Apply};
 ghost use Rattle.valid_laws.specs.Safe.{SafeAccess, SafeValue, SafeBound, SafeCondition};
 ghost use Rattle.walk_program.specs.Numbered.{Operands, LimitFits};
@@ -10,12 +11,12 @@ ghost use Rattle.walk_program.specs.Reading.{names_at, bound_of};
 ghost use Rattle.walk_actions.specs.Looked.{env_of};
 ghost use Rattle.walk_actions.specs.Values.{value_in, use_of, HasValue, HasRoom};
 
-use crate::scope::Scope;
+use crate::environment::Environment;
 use affine_ast::Pick;
 use affine_expr::{Expr, Set};
 use walk_program::{Limit, Subscripts};
 
-impl<'p> Scope<'p> {
+impl<'p> Environment<'p> {
     /// The value of an expression over the operands of a map, whose numbers are written down in the room.
     #[tactic(auto, using(crate::proofs::Values::evaluations))]
     fn evaluated(&self, expr: &Expr, at: &Subscripts, room: &mut Vec<i64>) -> i64

@@ -12,7 +12,7 @@ ghost use Rattle.walk_actions.specs.Meant.{place_meant};
 ghost use Rattle.walk_actions.specs.Values.{value_in, use_of, HasValue, HasRoom};
 
 use crate::action::{Home, Place};
-use crate::scope::Scope;
+use crate::environment::Environment;
 use affine_ast::MemrefType;
 use affine_expr::Expr;
 use walk_program::Subscripts;
@@ -32,7 +32,7 @@ pub fn within(subscript: i64, size: u32) -> Option<u32>
     Some(subscript as u32)
 }
 
-impl<'p> Scope<'p> {
+impl<'p> Environment<'p> {
     /// The number of an element, row-major; none where a subscript is outside its size.
     #[inline(always)]
     fn cell(
@@ -47,7 +47,8 @@ impl<'p> Scope<'p> {
         requires sizes { All (λ n. 1 ≤ n) sizes.now }
         requires few { product sizes.now < 2 ^ 32 }
         requires safe { All (HasValue (env_of self.now) (use_of self.now at.now)) results.now }
-        ensures value { result ≡ cell_in sizes.now (map (value_in (env_of self.now) (use_of self.now at.now)) results.now) }
+        ensures value { result ≡ cell_in sizes.now (map
+            (value_in (env_of self.now) (use_of self.now at.now)) results.now) }
         ensures below { IfSome result (λ cell. cell < product sizes.now) }
         ensures capacity { vec_capacity room.new ≡ vec_capacity room.old }
     {
@@ -89,7 +90,8 @@ impl<'p> Scope<'p> {
         requires rank { length at.now.map.results ≡ length ty.now.sizes }
         requires sizes { All (λ n. 1 ≤ n) ty.now.sizes }
         requires fast { IsFast number ty.now }
-        ensures value { place_meant result ≡ half_place number ty.now.sizes (results_of (env_of self.now) (use_of self.now at.now)) }
+        ensures value { place_meant result ≡ half_place number ty.now.sizes
+            (results_of (env_of self.now) (use_of self.now at.now)) }
         ensures capacity { vec_capacity room.new ≡ vec_capacity room.old }
     {
         let sizes = ty.sizes.as_slice();
@@ -110,7 +112,8 @@ impl<'p> Scope<'p> {
         requires memref { memref < length self.now.names }
         requires operands { Operands (length self.now.names) (vec_capacity room.old) at.now.operands }
         requires safe { SafePlace (env_of self.now) (name_at self.now.names memref) (use_of self.now at.now) ty.now }
-        ensures value { place_meant result ≡ place_of (env_of self.now) (name_at self.now.names memref) (use_of self.now at.now) ty.now }
+        ensures value { place_meant result ≡ place_of (env_of self.now) (name_at self.now.names memref)
+            (use_of self.now at.now) ty.now }
         ensures capacity { vec_capacity room.new ≡ vec_capacity room.old }
     {
         match self.home(memref) {
@@ -136,7 +139,8 @@ impl<'p> Scope<'p> {
         requires memref { memref < length self.now.names }
         requires operands { Operands (length self.now.names) (vec_capacity room.old) at.now.operands }
         requires safe { SafePlace (env_of self.now) (name_at self.now.names memref) (use_of self.now at.now) ty.now }
-        ensures value { result ≡ tag_of (env_of self.now) (name_at self.now.names memref) (use_of self.now at.now) ty.now }
+        ensures value { result ≡ tag_of (env_of self.now) (name_at self.now.names memref)
+            (use_of self.now at.now) ty.now }
         ensures capacity { vec_capacity room.new ≡ vec_capacity room.old }
     {
         match self.home(memref) {

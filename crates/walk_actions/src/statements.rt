@@ -12,12 +12,12 @@ ghost use Rattle.valid_laws.specs.Safe.{SafePlace, SafePlain, IsMemref, IsCount,
 ghost use Rattle.walk_program.specs.Names.{name_at};
 ghost use Rattle.walk_program.specs.Numbered.{Operands, PlainFits};
 ghost use Rattle.walk_program.specs.Reading.{names_at, plain_of};
-ghost use Rattle.walk_actions.specs.Looked.{env_of};
-ghost use Rattle.walk_actions.specs.Meant.{meant, operand_meant, OperandIn, NamesIn, NamesNone};
+ghost use Rattle.walk_actions.specs.Looked.{env_of, known_of, home_of};
+ghost use Rattle.walk_actions.specs.Meant.{meant, operand_meant, OperandIn, NamesIn, NamesNone, MeansAlone};
 ghost use Rattle.walk_actions.specs.Values.{use_of};
 
 use crate::action::{Action, Home, Operand};
-use crate::scope::Scope;
+use crate::environment::Environment;
 use affine_ast::{MemrefType, Scalar};
 use bus_model::FaultKind;
 use walk_program::{Plain, Subscripts};
@@ -38,7 +38,8 @@ pub(crate) fn elements(sizes: &[u32]) -> u32
 /// A constant: of index type its value is known where it is used.
 #[tactic(auto, unfolding(crate::specs::Meant::meant))]
 fn constant<'q>(into: u32, value: i64, ty: Scalar) -> Action<'q>
-    ensures value { (names : List TheName) (subscripts : List TheOperand) → meant names subscripts result ≡ constant_of (name_at names into) value ty }
+    ensures value { (names : List TheName) (subscripts : List TheOperand)
+        → meant names subscripts result ≡ constant_of (name_at names into) value ty }
     ensures inside { (count : ℕ) (subscripts : List TheOperand) → into < count → NamesIn count subscripts result }
 {
     match ty {
@@ -47,11 +48,12 @@ fn constant<'q>(into: u32, value: i64, ty: Scalar) -> Action<'q>
     }
 }
 
-impl<'p> Scope<'p> {
+impl<'p> Environment<'p> {
     /// What uses of names are, in order, in a list that has room for them.
     fn operands(&self, names: &[u32], uses: &mut Vec<Operand>)
         requires names { Operands (length self.now.names) (vec_capacity uses.old) names.now }
-        ensures values { map (operand_meant self.now.names) uses.new.items ≡ map (operand (env_of self.now)) (names_at self.now.names names.now) }
+        ensures values { map (operand_meant self.now.names) uses.new.items
+            ≡ map (operand (env_of self.now)) (names_at self.now.names names.now) }
         ensures inside { All (OperandIn (length self.now.names)) uses.new.items }
         ensures capacity { vec_capacity uses.new ≡ vec_capacity uses.old }
     {
@@ -65,7 +67,7 @@ impl<'p> Scope<'p> {
     #[tactic(auto, unfolding(crate::specs::Meant::meant), using(crate::proofs::Elements::few_memref))]
     fn alloc<'q>(&self, ty: &'q MemrefType) -> Action<'q>
         requires { IsMemref (Some (new_home (env_of self.now) ty.now)) ty.now }
-        ensures value { (names : List TheName) (subscripts : List TheOperand) → meant names subscripts result ≡ alloc_of (env_of self.now) ty.now }
+        ensures value { MeansAlone result (alloc_of (env_of self.now) ty.now) }
         ensures inside { NamesNone result }
     {
         if ty.space == 1 {
@@ -86,8 +88,8 @@ impl<'p> Scope<'p> {
     #[tactic(auto, unfolding(crate::specs::Meant::meant), using(crate::proofs::Elements::few_memref))]
     fn dealloc<'q>(&self, memref: u32, ty: &'q MemrefType) -> Action<'q>
         requires memref { memref < length self.now.names }
-        requires safe { IsMemref ((env_of self.now).home (name_at self.now.names memref)) ty.now }
-        ensures value { (names : List TheName) (subscripts : List TheOperand) → meant names subscripts result ≡ dealloc_of ((env_of self.now).home (name_at self.now.names memref)) ty.now }
+        requires safe { IsMemref (home_of self.now memref) ty.now }
+        ensures value { MeansAlone result (dealloc_of (home_of self.now memref) ty.now) }
         ensures inside { NamesNone result }
     {
         match self.home(memref) {
@@ -113,8 +115,8 @@ impl<'p> Scope<'p> {
     /// The count of a transfer.
     pub(crate) fn count(&self, name: u32) -> u64
         requires name { name < length self.now.names }
-        requires safe { IsCount ((env_of self.now).known (name_at self.now.names name)) }
-        ensures value { result ≡ gap (number ((env_of self.now).known (name_at self.now.names name))) }
+        requires safe { IsCount (known_of self.now name) }
+        ensures value { result ≡ gap (number (known_of self.now name)) }
         ensures least { 1 ≤ result }
         ensures fits { result < 2 ^ 63 }
     {
@@ -135,8 +137,9 @@ impl<'p> Scope<'p> {
         requires operands { Operands (length self.now.names) (vec_capacity room.old) at.now.operands }
         requires safe { SafePlace (env_of self.now) (name_at self.now.names tag) (use_of self.now at.now) ty.now }
         requires count { count < length self.now.names }
-        requires counts { IsCount ((env_of self.now).known (name_at self.now.names count)) }
-        ensures value { (names : List TheName) (subscripts : List TheOperand) → meant names subscripts result ≡ wait_of (tag_of (env_of self.now) (name_at self.now.names tag) (use_of self.now at.now) ty.now) (gap (number ((env_of self.now).known (name_at self.now.names count)))) }
+        requires counts { IsCount (known_of self.now count) }
+        ensures value { MeansAlone result (wait_of (tag_of (env_of self.now) (name_at self.now.names tag)
+            (use_of self.now at.now) ty.now) (gap (number (known_of self.now count)))) }
         ensures inside { NamesNone result }
         ensures capacity { vec_capacity room.new ≡ vec_capacity room.old }
     {
@@ -162,7 +165,9 @@ impl<'p> Scope<'p> {
         requires into { into < length self.now.names }
         requires memref { memref < length self.now.names }
         requires names { Operands (length self.now.names) (vec_capacity uses.old) at.now }
-        ensures value { meant self.now.names uses.new.items result ≡ RawLoads (name_at self.now.names into) ((env_of self.now).home (name_at self.now.names memref)) ty.entry.now.sizes (map (operand (env_of self.now)) (names_at self.now.names at.now)) }
+        ensures value { meant self.now.names uses.new.items result
+            ≡ RawLoads (name_at self.now.names into) (home_of self.now memref) ty.entry.now.sizes
+            (map (operand (env_of self.now)) (names_at self.now.names at.now)) }
         ensures inside { NamesIn (length self.now.names) uses.new.items result }
         ensures stays { vec_capacity uses.new ≡ vec_capacity uses.old }
     {
@@ -187,7 +192,10 @@ impl<'p> Scope<'p> {
         requires value { value < length self.now.names }
         requires memref { memref < length self.now.names }
         requires names { Operands (length self.now.names) (vec_capacity uses.old) at.now }
-        ensures value { meant self.now.names uses.new.items result ≡ RawStores (operand (env_of self.now) (name_at self.now.names value)) ((env_of self.now).home (name_at self.now.names memref)) ty.entry.now.sizes (map (operand (env_of self.now)) (names_at self.now.names at.now)) }
+        ensures value { meant self.now.names uses.new.items result
+            ≡ RawStores (operand (env_of self.now) (name_at self.now.names value))
+            (home_of self.now memref) ty.entry.now.sizes
+            (map (operand (env_of self.now)) (names_at self.now.names at.now)) }
         ensures inside { NamesIn (length self.now.names) uses.new.items result }
         ensures stays { vec_capacity uses.new ≡ vec_capacity uses.old }
     {
@@ -210,7 +218,8 @@ impl<'p> Scope<'p> {
         requires names { PlainFits (length self.now.names) (vec_capacity room.old) plain.now }
         requires uses { vec_capacity room.old ≤ vec_capacity uses.old }
         requires safe { SafePlain (env_of self.now) (plain_of self.now.names plain.now) }
-        ensures value { meant self.now.names uses.new.items result ≡ action_of (plain_of self.now.names plain.entry.now) (env_of self.now) }
+        ensures value { meant self.now.names uses.new.items result
+            ≡ action_of (plain_of self.now.names plain.entry.now) (env_of self.now) }
         ensures inside { NamesIn (length self.now.names) uses.new.items result }
         ensures room { vec_capacity room.new ≡ vec_capacity room.old }
         ensures stays { vec_capacity uses.new ≡ vec_capacity uses.old }

@@ -8,7 +8,8 @@ use Rattle.affine_ast.specs.declared.types.Bound.{Bound}
 use Rattle.affine_ast.specs.declared.types.Bound.TheVariants as bound
 use Rattle.affine_ast.specs.Names.{same_name}
 use Rattle.affine_ast.specs.Rules.{stride_names}
-use Rattle.affine_ast.specs.Nest.{Plain, Nest, Nothing, Loop, Branch, Does, Value, Load, Store, RawLoad, RawStore, Constant, Binary, Cast, Alloc, Dealloc, Start, Wait, Return, nest}
+use Rattle.affine_ast.specs.Nest.{Plain, Nest, Nothing, Loop, Branch, Does, Value, Load, Store, RawLoad, RawStore}
+use Rattle.affine_ast.specs.Nest.{Constant, Binary, Cast, Alloc, Dealloc, Start, Wait, Return, nest}
 
 -- the name of a number
 abbrev pub name_at : List Name → ℕ → Name
@@ -43,7 +44,8 @@ uses_in_plain (Binary r op a b ty) = r ∷ a ∷ b ∷ []
 uses_in_plain (Cast r kind x from to) = r ∷ x ∷ []
 uses_in_plain (Alloc r ty) = r ∷ []
 uses_in_plain (Dealloc m ty) = m ∷ []
-uses_in_plain (Start a a_at b b_at t t_at n stride types) = a ∷ a_at.operands ++ (b ∷ b_at.operands ++ (t ∷ t_at.operands ++ (n ∷ stride_names stride)))
+uses_in_plain (Start a a_at b b_at t t_at n stride types) =
+    a ∷ a_at.operands ++ (b ∷ b_at.operands ++ (t ∷ t_at.operands ++ (n ∷ stride_names stride)))
 uses_in_plain (Wait t at n ty) = t ∷ at.operands ++ (n ∷ [])
 uses_in_plain Return = []
 

@@ -1,6 +1,7 @@
 // The table of names while a module is numbered.
 ghost use Rattle.std.specs.Prelude.{◌≡◌, ℕ, max, [], ◌∷◌, length, IfOk, OnOk};
-ghost use Rattle.walk_program.specs.Numbering.{Table, Numbers, IsNumber, AreNumbers, AreOperands, IsSubscripts, IsLimit, IsStride, names_of_keys};
+ghost use Rattle.walk_program.specs.Numbering.{Table, Numbers, IsNumber, AreNumbers, AreOperands, IsSubscripts};
+ghost use Rattle.walk_program.specs.Numbering.{IsLimit, IsStride, names_of_keys};
 ghost use Rattle.affine_ast.specs.Rules.{stride_names};
 ghost use Rattle.walk_program.specs.Names.{uses_in_bound};
 ghost use Rattle.walk_program.specs.Widths.{width_in_bound};
@@ -131,7 +132,8 @@ impl<'a> Numbering<'a> {
         alloc: Global,
         names: &'a [Name],
     ) -> Result<Items<u32>, AllocError>
-        ensures { IfOk result (λ ks. Numbers (AreOperands ks names.now) names.now (length names.now) self.old self.new) }
+        ensures { IfOk result (λ ks. Numbers (AreOperands ks names.now) names.now
+            (length names.now) self.old self.new) }
     {
         let numbers = self.listed(alloc, names)?;
         self.widen(numbers.len())?;
@@ -144,7 +146,8 @@ impl<'a> Numbering<'a> {
         alloc: Global,
         at: &'a Access,
     ) -> Result<Subscripts, AllocError>
-        ensures { IfOk result (λ s. Numbers (IsSubscripts s at.now) at.now.operands (length at.now.operands) self.old self.new) }
+        ensures { IfOk result (λ s. Numbers (IsSubscripts s at.now) at.now.operands
+            (length at.now.operands) self.old self.new) }
     {
         Ok(Subscripts {
             map: at.map.copy(alloc)?,
@@ -154,7 +157,8 @@ impl<'a> Numbering<'a> {
 
     /// A bound with numbers.
     pub(crate) fn limit(&mut self, alloc: Global, bound: &'a Bound) -> Result<Limit, AllocError>
-        ensures { IfOk result (λ l. Numbers (IsLimit l bound.now) (uses_in_bound bound.now) (width_in_bound bound.now) self.old self.new) }
+        ensures { IfOk result (λ l. Numbers (IsLimit l bound.now) (uses_in_bound bound.now)
+            (width_in_bound bound.now) self.old self.new) }
     {
         match bound {
             Bound::Int(value) => Ok(Limit::Int(*value)),

@@ -7,5 +7,5 @@ use Rattle.nest_walk.proofs.arguments.placed.Given as goal
 abbrev pub invariant-loop-argument : goal.invariant-loop-argument
 invariant-loop-argument l = record {
   placed : placed_of l.placing ≡ fold place_arg (record { env = empty_env; memrefs = 0; elements = 0; symbols = l.symbols }) (map (argument_of l.names) (take l.argument-index l.arguments));
-  names : l.placing.scope.names ≡ l.names;
+  names : l.placing.environment.names ≡ l.names;
 }

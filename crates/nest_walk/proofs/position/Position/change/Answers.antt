@@ -16,7 +16,7 @@ overflow_add-tags c =
     omega (arith, fits.tags, c.counts-fasts.ensures.tags)
 
 pub returns-in-Fast : goal.returns-in-Fast
-returns-in-Fast c = rw c.in-Fast.is (subst (λ (e : Env). Opened c.args.self.now c.place.new.self e) (fast_changed (env_of c.args.self.now.scope) _ _ _ (sym c.counts-fasts.ensures.fasts) (sym c.counts-fasts.ensures.tags)) c.place.ensures)
+returns-in-Fast c = rw c.in-Fast.is (subst (λ (e : Env). Opened c.args.self.now c.place.new.self e) (fast_changed (env_of c.args.self.now.bindings) _ _ _ (sym c.counts-fasts.ensures.fasts) (sym c.counts-fasts.ensures.tags)) c.place.ensures)
 
 pub returns-in-Tags : goal.returns-in-Tags
-returns-in-Tags c = rw c.in-Tags.is (subst (λ (e : Env). Opened c.args.self.now c.place-in-Tags.new.self e) (tags_changed (env_of c.args.self.now.scope) _ _ _ c.in-Tags.count (sym c.counts-fasts.ensures.fasts) (sym c.counts-fasts.ensures.tags)) c.place-in-Tags.ensures)
+returns-in-Tags c = rw c.in-Tags.is (subst (λ (e : Env). Opened c.args.self.now c.place-in-Tags.new.self e) (tags_changed (env_of c.args.self.now.bindings) _ _ _ c.in-Tags.count (sym c.counts-fasts.ensures.fasts) (sym c.counts-fasts.ensures.tags)) c.place-in-Tags.ensures)

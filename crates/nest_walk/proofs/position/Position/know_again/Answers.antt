@@ -11,4 +11,4 @@ know-requires c = record { name = known_inside (stand_of c.args.self.now) c.args
 pub returns : goal.returns
 returns c =
     let p = c.args.self.now in
-    known_again (stand_of p) _ c.args.name c.args.before c.requires.ready c.requires.empty (under_stand p _ (with_known (name_at p.scope.names c.args.name) c.args.before (env_of p.scope)) c.know.ensures.at)
+    known_again (stand_of p) _ c.args.name c.args.before c.requires.ready c.requires.empty (under_stand p _ (with_known (name_at p.bindings.names c.args.name) c.args.before (env_of p.bindings)) c.know.ensures.at)

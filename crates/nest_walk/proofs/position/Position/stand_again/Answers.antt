@@ -11,4 +11,4 @@ stand-requires c = record { name = placed_inside (stand_of c.args.self.now) c.ar
 pub returns : goal.returns
 returns c =
     let p = c.args.self.now in
-    placed_again (stand_of p) _ c.args.name c.args.before c.requires.ready c.requires.empty (under_stand p _ (with_home (name_at p.scope.names c.args.name) (homes_meant c.args.before) (env_of p.scope)) c.stand.ensures.at)
+    placed_again (stand_of p) _ c.args.name c.args.before c.requires.ready c.requires.empty (under_stand p _ (with_home (name_at p.bindings.names c.args.name) (homes_meant c.args.before) (env_of p.bindings)) c.stand.ensures.at)

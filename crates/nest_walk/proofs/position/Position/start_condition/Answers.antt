@@ -12,10 +12,10 @@ pub push-requires : goal.push-requires
 push-requires c = record { room = omega (arith, (branch_fits (stand_of c.args.self.now) c.requires.there.0 c.args.set.now c.args.operands.now _ c.args.first_inside c.requires.there.1 _ c.args.other_inside c.args.rest c.requires.ready c.requires.there.2).2, ap (λ (m : Standing). length m.frames) c.holds.ensures.at, ap (λ (m : Standing). m.capacity) c.holds.ensures.at) }
 
 pub overflow_add-before : goal.overflow_add-before
-overflow_add-before c = omega (arith, (branch_fits (stand_of c.args.self.now) c.requires.there.0 c.args.set.now c.args.operands.now _ c.args.first_inside c.requires.there.1 _ c.args.other_inside c.args.rest c.requires.ready c.requires.there.2).3, c.counts-before.ensures.fasts, ap (λ (m : Standing). m.scope.fasts) c.holds.ensures.at)
+overflow_add-before c = omega (arith, (branch_fits (stand_of c.args.self.now) c.requires.there.0 c.args.set.now c.args.operands.now _ c.args.first_inside c.requires.there.1 _ c.args.other_inside c.args.rest c.requires.ready c.requires.there.2).3, c.counts-before.ensures.fasts, ap (λ (m : Standing). m.bindings.fasts) c.holds.ensures.at)
 
 pub overflow_add-before-else-holds : goal.overflow_add-before-else-holds
-overflow_add-before-else-holds c = omega (arith, (branch_fits (stand_of c.args.self.now) c.requires.there.0 c.args.set.now c.args.operands.now _ c.args.first_inside c.requires.there.1 _ c.args.other_inside c.args.rest c.requires.ready c.requires.there.2).4, c.counts-before.ensures.tags, ap (λ (m : Standing). m.scope.tags) c.holds.ensures.at)
+overflow_add-before-else-holds c = omega (arith, (branch_fits (stand_of c.args.self.now) c.requires.there.0 c.args.set.now c.args.operands.now _ c.args.first_inside c.requires.there.1 _ c.args.other_inside c.args.rest c.requires.ready c.requires.there.2).4, c.counts-before.ensures.tags, ap (λ (m : Standing). m.bindings.tags) c.holds.ensures.at)
 
 pub push-requires-else-holds : goal.push-requires-else-holds
 push-requires-else-holds c = record { room = omega (arith, (branch_fits (stand_of c.args.self.now) c.requires.there.0 c.args.set.now c.args.operands.now _ c.args.first_inside c.requires.there.1 _ c.args.other_inside c.args.rest c.requires.ready c.requires.there.2).2, ap (λ (m : Standing). length m.frames) c.holds.ensures.at, ap (λ (m : Standing). m.capacity) c.holds.ensures.at, ap (λ (m : Standing). length m.frames) c.count.ensures, ap (λ (m : Standing). m.capacity) c.count.ensures) }

@@ -17,7 +17,7 @@ later-next-requires-clause-step c =
 pub know-requires : goal.know-requires
 know-requires c =
     let fits = turn_fits _ c.args.var c.args.before c.args.at c.args.upper c.args.step c.args.start c.args.inside c.args.body c.args.self.now.frames c.requires.ready c.requires.empty refl in
-    record { name = omega (arith, fits.0, ap (λ (m : Standing). length m.scope.names) c.push.ensures) }
+    record { name = omega (arith, fits.0, ap (λ (m : Standing). length m.bindings.names) c.push.ensures) }
 
 pub know-requires-else-at-upper : goal.know-requires-else-at-upper
 know-requires-else-at-upper c = record { name = (turn_fits _ c.args.var c.args.before c.args.at c.args.upper c.args.step c.args.start c.args.inside c.args.body c.args.self.now.frames c.requires.ready c.requires.empty refl).0 }
