@@ -1,6 +1,7 @@
 -- What clap is told of options, and their values, one option more.
 use Rattle.std.proofs.Common.{◌≡◌, ℕ, ◌+◌, ◌<◌, suc, zero, Bool, true, false, List, [], ◌∷◌, ◌++◌, map, Option, Some, None, refl, ap, ◌∙◌, sym, append-nil, length, take, get_or, arith}
-use Rattle.std.specs.Prelude.{if◌then◌else◌, option_map, option_and_then}
+use Rattle.std.specs.List.{list_all}
+use Rattle.std.specs.Prelude.{◌&&◌, if◌then◌else◌, option_map, option_and_then}
 use Rattle.std.proofs.lemmas.List.{take_more}
 use Rattle.std.proofs.lemmas.Grind.{common_steps}
 use Rattle.clap.specs.Words.{App, Rule, with_rule}
@@ -8,7 +9,7 @@ use Rattle.clap.specs.declared.parser.matches.ArgMatches.{ArgMatches}
 use Rattle.command_words.specs.declared.options.CommandOption.{CommandOption}
 use Rattle.command_words.specs.declared.options.Value.{Value}
 use Rattle.command_words.specs.Words.{Text, Item}
-use Rattle.command_words.specs.Options.{is_built, value_in, values_in}
+use Rattle.command_words.specs.Options.{is_built, meets_need, value_in, values_in}
 use Rattle.command_words.specs.Reader.{Choice, choice_for, choices_of, app_with, rule_of_choice, Agrees, AllAgree}
 
 one_more : (os : List CommandOption) (i : ℕ) (d : CommandOption) → i < length os → take (i + 1) os ≡ take i os ++ get_or os i d ∷ []
@@ -97,3 +98,41 @@ without items (x ∷ xs) (suc i) d h n =
 pub no_value : (m : ArgMatches) (items : List Item) (os : List CommandOption) (i : ℕ) (d : CommandOption) (r : Option Value) → i < length os
     → ((given : List Item) → Agrees m given (get_or os i d) → r ≡ value_in given (get_or os i d)) → r ≡ None → AllAgree m items os → None ≡ values_in items os
 no_value m items os i d r h tell is all = without items os i d h (sym is ∙ tell items (agrees_at m items os i d h all))
+
+-- ---- Needs
+
+flag_after : (f : CommandOption → Bool) (os : List CommandOption) (i : ℕ) (d : CommandOption) → i < length os → list_all f (take (i + 1) os) ≡ (list_all f (take i os) && f (get_or os i d))
+flag_after f os i d h = ap (list_all f) (one_more os i d h) ∙ all_push (take i os) (get_or os i d)
+  where
+    all_push : (xs : List CommandOption) (o : CommandOption) → list_all f (xs ++ o ∷ []) ≡ (list_all f xs && f o)
+    all_push [] o = last (f o)
+      where
+        last : (b : Bool) → (b && true) ≡ b
+        last true = refl
+        last false = refl
+    all_push (x ∷ xs) o = step (f x) (all_push xs o)
+      where
+        step : (b : Bool) → list_all f (xs ++ o ∷ []) ≡ (list_all f xs && f o) → (b && list_all f (xs ++ o ∷ [])) ≡ ((b && list_all f xs) && f o)
+        step true e = e
+        step false e = refl
+
+-- one option more meets its need
+pub need_more : (m : ArgMatches) (items : List Item) (os : List CommandOption) (i : ℕ) (d : CommandOption) (r : Bool) → i < length os
+    → ((given : List Item) → Agrees m given (get_or os i d) → r ≡ meets_need given (get_or os i d)) → r ≡ true → AllAgree m items os
+    → list_all (meets_need items) (take i os) ≡ true → list_all (meets_need items) (take (i + 1) os) ≡ true
+need_more m items os i d r h tell is all known =
+    flag_after (meets_need items) os i d h ∙ ap (λ b. b && meets_need items (get_or os i d)) known ∙ sym (tell items (agrees_at m items os i d h all)) ∙ is
+
+not_all : (f : CommandOption → Bool) (os : List CommandOption) (i : ℕ) (d : CommandOption) → i < length os → f (get_or os i d) ≡ false → false ≡ list_all f os
+not_all f [] i d h n = absurd (omega arith)
+not_all f (x ∷ xs) zero d h n = sym (ap (λ b. b && list_all f xs) n)
+not_all f (x ∷ xs) (suc i) d h n = step (f x) (not_all f xs i d (grind (arith, common_steps)) n)
+  where
+    step : (b : Bool) → false ≡ list_all f xs → false ≡ (b && list_all f xs)
+    step true e = e
+    step false e = refl
+
+-- where an option's need isn't met, not all are
+pub need_unmet : (m : ArgMatches) (items : List Item) (os : List CommandOption) (i : ℕ) (d : CommandOption) (r : Bool) → i < length os
+    → ((given : List Item) → Agrees m given (get_or os i d) → r ≡ meets_need given (get_or os i d)) → r ≡ false → AllAgree m items os → false ≡ list_all (meets_need items) os
+need_unmet m items os i d r h tell is all = not_all (meets_need items) os i d h (sym (tell items (agrees_at m items os i d h all)) ∙ is)

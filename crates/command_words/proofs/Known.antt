@@ -9,7 +9,7 @@ use Rattle.command_words.specs.declared.options.CommandOption.{CommandOption}
 use Rattle.command_words.specs.declared.options.Takes.{Takes}
 use Rattle.command_words.specs.declared.options.Takes.TheVariants as takes
 use Rattle.command_words.specs.Words.{Text, Item, has_name, are_once}
-use Rattle.command_words.specs.Options.{is_built, is_name, has_option, are_named, accepts, option_of, is_known}
+use Rattle.command_words.specs.Options.{is_built, is_name, has_option, are_named, accepts, option_of, is_known, is_need_known, has_default, is_table}
 use Rattle.command_words.specs.Reader.{Choice, value, flag, name_of, choice_of, choice_by, choice_for, choices_of, once_after}
 use Rattle.command_words.proofs.Runs.{found_name}
 use Rattle.command_words.proofs.Found.{IsOfChoice, AllOfChoices, NoFlag}
@@ -21,7 +21,7 @@ no_true h = absurd (let x : ⊥ = cc in x)
 true_no : {P : Type 0} → true ≡ false → P
 true_no h = absurd (let x : ⊥ = cc in x)
 
-and_both : (a b : Bool) → (a && b) ≡ true → (a ≡ true) × (b ≡ true)
+pub and_both : (a b : Bool) → (a && b) ≡ true → (a ≡ true) × (b ≡ true)
 and_both true b h = (refl, h)
 and_both false b h = no_true h
 
@@ -143,19 +143,17 @@ value_named cs m n h = h ∙ ap (λ t. Some (value t)) (found_name cs m (value n
 flag_named : (cs : List Choice) (m n : Text) → choice_of cs m ≡ Some (flag n) → choice_of cs m ≡ Some (flag m)
 flag_named cs m n h = h ∙ ap (λ t. Some (flag t)) (found_name cs m (flag n) h)
 
-known_choice : (options : List CommandOption) (item : Item) → is_known options item ≡ true → IsOfChoice (choices_of options) item
+pub known_choice : (options : List CommandOption) (item : Item) → is_known options item ≡ true → IsOfChoice (choices_of options) item
 known_choice options (m, Some v) h = step (option_of options m) (chosen_of options m) h
   where
     step : (found : Option CommandOption) → choice_of (choices_of options) m ≡ option_map choice_for found → option_map_or (λ o. accepts o.takes (Some v)) found false ≡ true → choice_of (choices_of options) m ≡ Some (value m)
     step None e k = no_true k
     step (Some o) e k = value_named (choices_of options) m o.name.now (e ∙ ap Some (kind_value o.takes o.name.now v k))
-
 known_choice options (m, None) h = step (option_of options m) (chosen_of options m) h
   where
     step : (found : Option CommandOption) → choice_of (choices_of options) m ≡ option_map choice_for found → option_map_or (λ o. accepts o.takes None) found false ≡ true → choice_of (choices_of options) m ≡ Some (flag m)
     step None e k = no_true k
     step (Some o) e k = flag_named (choices_of options) m o.name.now (e ∙ ap Some (kind_flag o.takes o.name.now k))
-
 
 pub known_choices : (options : List CommandOption) (items : List Item) → list_all (is_known options) items ≡ true → AllOfChoices (choices_of options) items
 known_choices options [] h = tt
@@ -254,3 +252,13 @@ once_is items = once_behind [] items ∙ ap (λ b. are_once items && b) (all_lac
     last : (b : Bool) → (b && true) ≡ b
     last true = refl
     last false = refl
+
+-- ---- A table
+
+pub is_table_parts : (options : List CommandOption) → is_table options ≡ true → (are_named options ≡ true) × (list_all (is_need_known options) options ≡ true)
+is_table_parts options h =
+    let parts = and_both (are_named options) _ h in
+    (parts.0, (and_both (list_all (is_need_known options) options) _ parts.1).0)
+
+pub defaults_fit : (options : List CommandOption) → is_table options ≡ true → list_all (λ o. has_default o.takes) options ≡ true
+defaults_fit options h = (and_both (list_all (is_need_known options) options) _ (and_both (are_named options) _ h).1).1

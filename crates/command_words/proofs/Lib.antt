@@ -11,3 +11,4 @@ pub mod Spelled
 pub mod Known
 pub mod Taken
 pub mod Chosen
+pub mod Fit

@@ -2,7 +2,8 @@
 use Rattle.std.proofs.Common.{◌≡◌, ◌⊎◌, inl, inr, ◌↔◌, Bool, true, false, not, List, [], ◌∷◌, ◌++◌, map, Option, Some, None, is_some, refl, ap, ◌∙◌, sym, subst, codes}
 use Rattle.std.specs.Prelude.{◌&&◌, ◌||◌, if◌then◌else◌, option_map, option_and_then, fold}
 use Rattle.std.specs.Prelude.{Result, Ok, Err, IfOk}
-use Rattle.std.specs.List.{list_any}
+use Rattle.std.specs.List.{list_all, list_any}
+use Rattle.std.specs.Option.{option_map_or}
 use Rattle.std.specs.Borrow.{Bor}
 use Rattle.clap.specs.Matches.{first_value, found_of, one_text}
 use Rattle.clap.specs.declared.parser.matches.ArgMatches.{ArgMatches}
@@ -17,8 +18,8 @@ use Rattle.command_words.specs.declared.options.Takes.{Takes}
 use Rattle.command_words.specs.declared.options.Takes.TheVariants as takes
 use Rattle.command_words.specs.declared.options.Value.{Value}
 use Rattle.command_words.specs.Words.{Text, Item, begins_with_hyphen, text_of, has_name}
-use Rattle.command_words.specs.Options.{is_built, are_named, values_in, Gives}
-use Rattle.command_words.specs.Reader.{Choice, value, flag, choice_of, choice_by, choices_of, dashed, is_stray, name_in, value_after, and_then, read, read_item, read_word, once_after, if_once, items_of, AgreesBy, AllAgree}
+use Rattle.command_words.specs.Options.{is_built, are_named, is_known, is_need_known, meets_need, values_in, Gives}
+use Rattle.command_words.specs.Reader.{Choice, value, flag, choice_of, choice_by, choices_of, dashed, is_stray, name_in, value_after, and_then, read, read_item, read_word, once_after, if_once, items_of, AgreesBy, AgreesOn, AllAgree}
 use Rattle.command_words.proofs.Rules.{rules_for}
 use Rattle.command_words.proofs.Turns.{none}
 use Rattle.command_words.proofs.Runs.{NoStray, ready, adds, run, run_is_read}
@@ -26,7 +27,7 @@ use Rattle.command_words.proofs.Faults.{app_for, end_of, fault_is_run, run_is_wa
 use Rattle.command_words.proofs.Found.{AllOfChoices, NoFlag, adds_are_rows, first_of_finished, first_of_items, read_of_choices, rows_for}
 use Rattle.command_words.proofs.Flags.{flag_text}
 use Rattle.command_words.proofs.Spelled.{read_spells, spells_read}
-use Rattle.command_words.proofs.Known.{IsChosen, IsClear, AllChosen, all_chosen, all_names, known_choices, choices_known, once_is}
+use Rattle.command_words.proofs.Known.{IsChosen, IsClear, AllChosen, all_chosen, all_names, and_both, known_choice, known_choices, choices_known, once_is}
 
 clash : {P : Type 0} (b : Bool) → b ≡ true → b ≡ false → P
 clash true p q = absurd (let x : ⊥ = cc in x)
@@ -175,11 +176,24 @@ agrees_by cs m items takes.Flag n known clear all rows = one_text-rows (found_of
 agrees_by cs m items (takes.Number least most default) n known clear all rows =
     first_value-rows (found_of m) n ∙ ap (first_of n) rows ∙ first_of_finished cs n (rows_for items) clear ∙ first_of_items cs n items known all
 
-pub all_agree : (cs : List Choice) (m : ArgMatches) (items : List Item) (options : List CommandOption) → AllChosen cs options → AllOfChoices cs items
-    → rows_of (found_of m) ≡ fold with_default (rows_for items) (rules_for cs) → AllAgree m items options
-all_agree cs m items [] chosen all rows = tt
-all_agree cs m items (o ∷ os) chosen all rows =
-    (λ b. agrees_by cs m items o.takes o.name.now (chosen.0 b).0 (chosen.0 b).1 all rows, all_agree cs m items os chosen.1 all rows)
+agrees_on : (options : List CommandOption) (m : ArgMatches) (items : List Item) (needs : Option (Bor Text)) → option_map_or (λ name. is_known options (name.now, None)) needs true ≡ true
+    → AllOfChoices (choices_of options) items → rows_of (found_of m) ≡ fold with_default (rows_for items) (rules_for (choices_of options)) → AgreesOn needs m items
+agrees_on options m items None known all rows = tt
+agrees_on options m items (Some name) known all rows =
+    agrees_by (choices_of options) m items takes.Flag name.now (known_choice options (name.now, None) known) tt all rows
+
+module _ (options : List CommandOption) (m : ArgMatches) (items : List Item) (all : AllOfChoices (choices_of options) items)
+    (rows : rows_of (found_of m) ≡ fold with_default (rows_for items) (rules_for (choices_of options))) where
+  pub all_agree : (os : List CommandOption) → AllChosen (choices_of options) os → list_all (is_need_known options) os ≡ true → AllAgree m items os
+  all_agree [] chosen needs = tt
+  all_agree (o ∷ os) chosen needs =
+      let parts = and_both (is_need_known options o) _ needs in (
+        λ b. (
+          agrees_by (choices_of options) m items o.takes o.name.now (chosen.0 b).0 (chosen.0 b).1 all rows,
+          agrees_on options m items o.needs (sym (ap (λ p. if p then option_map_or (λ name. is_known options (name.now, None)) o.needs true else true) b) ∙ parts.0) all rows,
+        ),
+        all_agree os chosen.1 parts.1,
+      )
 
 -- ---- The answer
 
@@ -210,24 +224,33 @@ items_read cs words items e = by_read (read cs None words) refl e
     by_read None r h = no_some items h
     by_read (Some o) r h = by_once o r (once_after [] o) refl h
 
-pub values_given : (options : List CommandOption) (words : List Text) (items : List Item) (found : Option (List Value)) → are_named options ≡ true
-    → items_of (choices_of options) words ≡ Some items → found ≡ values_in items options
-    → (values : List Value) → (found ≡ Some values) ↔ Gives options words values
-values_given options words items found named e is values = (forth, back)
-  where
-    facts : (read (choices_of options) None words ≡ Some items) × (once_after [] items ≡ true)
-    facts = items_read (choices_of options) words items e
+module _ (options : List CommandOption) (words : List Text) (items : List Item) (named : are_named options ≡ true) (e : items_of (choices_of options) words ≡ Some items) where
+  facts : (read (choices_of options) None words ≡ Some items) × (once_after [] items ≡ true)
+  facts = items_read (choices_of options) words items e
 
-    forth : found ≡ Some values → Gives options words values
-    forth h = record {
-      items = items;
-      spelled = read_spells (choices_of options) words None items facts.0;
-      known = choices_known options items (read_of_choices (choices_of options) words None tt items facts.0);
-      once = sym (once_is items) ∙ facts.1;
-      valued = sym is ∙ h;
-    }
+  same_items : (values : List Value) → (g : Gives options words values) → g.items ≡ items
+  same_items values g = some_is g.items items (sym (given_items options words values named g) ∙ e)
 
-    back : Gives options words values → found ≡ Some values
-    back g =
-        let same : g.items ≡ items = some_is g.items items (sym (given_items options words values named g) ∙ e) in
-        is ∙ ap (λ l. values_in l options) (sym same) ∙ g.valued
+  -- where a need isn't met, nothing is given
+  pub unmet_given : (r : Bool) → r ≡ list_all (meets_need items) options → r ≡ false → (values : List Value) → (None ≡ Some values) ↔ Gives options words values
+  unmet_given r is h values = (
+    λ n. no_some values n,
+    λ g. clash (list_all (meets_need items) options) (ap (λ l. list_all (meets_need l) options) (sym (same_items values g)) ∙ g.needed) (sym is ∙ h),
+  )
+
+  pub values_given : (found : Option (List Value)) (r : Bool) → r ≡ list_all (meets_need items) options → r ≡ true → found ≡ values_in items options
+      → (values : List Value) → (found ≡ Some values) ↔ Gives options words values
+  values_given found r is h valued values = (forth, back)
+    where
+      forth : found ≡ Some values → Gives options words values
+      forth k = record {
+        items = items;
+        spelled = read_spells (choices_of options) words None items facts.0;
+        known = choices_known options items (read_of_choices (choices_of options) words None tt items facts.0);
+        once = sym (once_is items) ∙ facts.1;
+        needed = sym is ∙ h;
+        valued = sym valued ∙ k;
+      }
+
+      back : Gives options words values → found ≡ Some values
+      back g = valued ∙ ap (λ l. values_in l options) (sym (same_items values g)) ∙ g.valued

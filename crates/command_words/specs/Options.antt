@@ -1,8 +1,9 @@
 -- The values that words give the options of a command.
-use Rattle.std.specs.Prelude.{◌≡◌, ℕ, ◌==◌, ◌&&◌, Bool, true, false, not, ℤ, int_le, nat_le, List, [], ◌∷◌, length, Option, Some, None, if◌then◌else◌, find, option_map, option_and_then}
+use Rattle.std.specs.Prelude.{◌≡◌, ℕ, ◌==◌, ◌&&◌, Bool, true, false, not, ℤ, int_le, nat_le, List, [], ◌∷◌, length, Option, Some, None, is_some, if◌then◌else◌, find, option_map, option_and_then}
 use Rattle.std.specs.List.{list_all, list_any}
 use Rattle.std.specs.Option.{option_map_or}
 use Rattle.std.specs.Str.{bytes_eq}
+use Rattle.std.specs.Borrow.{Bor}
 use Rattle.num_row.specs.Decimals.{without_minus, is_decimal, decimal_value}
 use Rattle.command_words.specs.declared.options.CommandOption.{CommandOption}
 use Rattle.command_words.specs.declared.options.Standing.{Standing}
@@ -88,11 +89,43 @@ abbrev pub values_in : List Item → List CommandOption → Option (List Value)
 values_in items [] = Some []
 values_in items (option ∷ options) = option_and_then (λ first. option_map (λ rest. first ∷ rest) (values_in items options)) (value_in items option)
 
+-- ---- What needs what
+
+-- a flag is given by its name, and a number by its text
+abbrev pub is_given : List Item → Takes → Text → Bool
+is_given items takes.Flag name = has_name name items
+is_given items (takes.Number least most default) name = is_some (text_of name items)
+
+abbrev pub has_need : List Item → Option (Bor Text) → Bool
+has_need items None = true
+has_need items (Some name) = has_name name.now items
+
+-- where the option is given, the flag that it needs is given
+abbrev pub meets_need : List Item → CommandOption → Bool
+meets_need items option = if is_built option && is_given items option.takes option.name.now then has_need items option.needs else true
+
 -- The words give a command's options these values: they are the words of some items, each of which is one of the command's
--- options, and none is given twice; and of these items are the values, with defaults for what isn't given.
+-- options, none is given twice, and none without the flag that it needs; and of these items are the values, with defaults for
+-- what isn't given.
 pub record Gives (options : List CommandOption) (words : List Text) (values : List Value) : Type 0 where
   pub items : List Item
   pub spelled : Spells items words
   pub known : list_all (is_known options) items ≡ true
   pub once : are_once items ≡ true
+  pub needed : list_all (meets_need items) options ≡ true
   pub valued : values_in items options ≡ Some values
+
+-- ---- Tables
+
+-- what a built option needs is a built flag
+abbrev pub is_need_known : List CommandOption → CommandOption → Bool
+is_need_known options option = if is_built option then option_map_or (λ name. is_known options (name.now, None)) option.needs true else true
+
+-- a default lies in its range
+abbrev pub has_default : Takes → Bool
+has_default takes.Flag = true
+has_default (takes.Number least most default) = is_between least most default
+
+-- a list of options as a command may have it
+abbrev pub is_table : List CommandOption → Bool
+is_table options = are_named options && (list_all (is_need_known options) options && list_all (λ option. has_default option.takes) options)

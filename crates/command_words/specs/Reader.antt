@@ -3,6 +3,7 @@
 use Rattle.std.specs.Prelude.{◌≡◌, ℕ, ◌==◌, ◌&&◌, Bool, true, false, not, List, [], ◌∷◌, ◌++◌, map, Option, Some, None, is_some, if◌then◌else◌, find, option_map, option_and_then, codes}
 use Rattle.std.specs.List.{before_first, after_first, list_any}
 use Rattle.std.specs.Str.{bytes_eq}
+use Rattle.std.specs.Borrow.{Bor}
 use Rattle.clap.specs.Words.{App, Rule, new_rule, found_of, first_value, one_text}
 use Rattle.clap.specs.Simple.{new_shape}
 use Rattle.clap.specs.declared.builder.action.ArgAction.TheVariants.{Set, SetTrue}
@@ -112,9 +113,13 @@ abbrev pub AgreesBy : Takes → Text → ArgMatches → List Item → Type 0
 AgreesBy takes.Flag name m items = one_text (found_of m) name ≡ Some (if has_name name items then codes "true" else codes "false")
 AgreesBy (takes.Number least most default) name m items = first_value (found_of m) name ≡ text_of name items
 
--- clap's matches have of a built option what the items have
+abbrev pub AgreesOn : Option (Bor Text) → ArgMatches → List Item → Type 0
+AgreesOn None m items = Unit {0}
+AgreesOn (Some name) m items = one_text (found_of m) name.now ≡ Some (if has_name name.now items then codes "true" else codes "false")
+
+-- clap's matches have of a built option, and of the flag that it needs, what the items have
 abbrev pub Agrees : ArgMatches → List Item → CommandOption → Type 0
-Agrees m items option = is_built option ≡ true → AgreesBy option.takes option.name.now m items
+Agrees m items option = is_built option ≡ true → AgreesBy option.takes option.name.now m items × AgreesOn option.needs m items
 
 abbrev pub AllAgree : ArgMatches → List Item → List CommandOption → Type 0
 AllAgree m items [] = Unit {0}

@@ -6,7 +6,7 @@ ghost use Rattle.num_row.specs.Decimals as decimals;
 ghost use Rattle.num_row.specs.Ints.{fits_i128};
 ghost use Rattle.command_words.specs.Words.{Item};
 ghost use Rattle.command_words.specs.Options as spec;
-ghost use Rattle.command_words.specs.Reader.{Agrees, AllAgree};
+ghost use Rattle.command_words.specs.Reader.{Agrees, AgreesBy, AgreesOn, AllAgree};
 
 use crate::options::{CommandOption, Takes, Value};
 use clap::ArgMatches;
@@ -113,4 +113,46 @@ pub(crate) fn values_of(
         values.push(value)?;
     }
     Ok(Some(values))
+}
+
+/// Whether an option is given.
+fn is_given(matches: &ArgMatches<'_>, option: &CommandOption<'_>) -> bool
+    ensures { (items : List Item) → AgreesBy option.now.takes option.now.name.now matches.now items → result ≡ spec.is_given items option.now.takes option.now.name.now }
+{
+    match option.takes {
+        Takes::Flag => matches.get_flag(option.name),
+        Takes::Number { .. } => matches.get_str(option.name).is_some(),
+    }
+}
+
+/// Whether the flag that an option needs is given.
+fn has_need(matches: &ArgMatches<'_>, needs: Option<&str>) -> bool
+    ensures { (items : List Item) → AgreesOn needs.entry matches.now items → result ≡ spec.has_need items needs.entry }
+{
+    match needs {
+        Some(name) => matches.get_flag(name),
+        None => true,
+    }
+}
+
+fn meets_need(matches: &ArgMatches<'_>, option: &CommandOption<'_>) -> bool
+    ensures { (items : List Item) → Agrees matches.now items option.now → result ≡ spec.meets_need items option.now }
+{
+    if option.is_built() && is_given(matches, option) {
+        has_need(matches, option.needs)
+    } else {
+        true
+    }
+}
+
+/// Whether each option that is given has the flag that it needs.
+pub(crate) fn all_meet_needs(matches: &ArgMatches<'_>, options: &[CommandOption<'_>]) -> bool
+    ensures { (items : List Item) → AllAgree matches.now items options.now → result ≡ list_all (spec.meets_need items) options.now }
+{
+    for option in options {
+        if !meets_need(matches, option) {
+            return false;
+        }
+    }
+    true
 }

@@ -1,6 +1,6 @@
 // The options of a command, and their values.
 ghost use Rattle.std.specs.Prelude.{◌≡◌};
-ghost use Rattle.command_words.specs.Options.{is_built, default_of};
+ghost use Rattle.command_words.specs.Options as spec;
 
 /// Whether the program has an option yet. Words that give one which it doesn't have are refused, and it has its default.
 #[derive(Clone, Copy)]
@@ -23,6 +23,8 @@ pub enum Takes {
 pub struct CommandOption<'a> {
     pub name: &'a str,
     pub takes: Takes,
+    /// The flag without which the option isn't given.
+    pub needs: Option<&'a str>,
     pub standing: Standing,
 }
 
@@ -38,7 +40,7 @@ pub enum Value {
 impl CommandOption<'_> {
     /// Whether the program has the option.
     pub(crate) fn is_built(&self) -> bool
-        ensures { result ≡ is_built self.now }
+        ensures { result ≡ spec.is_built self.now }
     {
         matches!(self.standing, Standing::Built)
     }
@@ -47,7 +49,7 @@ impl CommandOption<'_> {
 impl Takes {
     /// The value of an option that isn't given.
     pub(crate) fn default(self) -> Value
-        ensures { result ≡ default_of self }
+        ensures { result ≡ spec.default_of self }
     {
         match self {
             Takes::Flag => Value::Flag(false),

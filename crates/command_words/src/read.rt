@@ -3,10 +3,10 @@ ghost use Rattle.std.specs.Prelude.{◌≡◌, ◌↔◌, Some, IfOk, map, optio
 ghost use Rattle.std.specs.List.{list_any};
 ghost use Rattle.clap.specs.Words.{app_of, rule_of};
 ghost use Rattle.command_words.specs.declared.options.Value.{Value};
-ghost use Rattle.command_words.specs.Options.{are_named, Gives};
+ghost use Rattle.command_words.specs.Options.{is_table, Gives};
 ghost use Rattle.command_words.specs.Reader as spec;
 
-use crate::matches::values_of;
+use crate::matches::{all_meet_needs, values_of};
 use crate::options::{CommandOption, Takes, Value};
 use clap::error::ErrorKind;
 use clap::{Arg, ArgAction, Command};
@@ -63,14 +63,14 @@ fn command<'a>(
 }
 
 /// The values that the words behind a command's name give its options, in order of these; none where the words don't keep the
-/// rules of writing, or a number isn't in its option's range.
+/// rules of writing, a number isn't in its option's range, or an option is given without the flag that it needs.
 pub fn read_words<'a>(
     alloc: Global,
     name: &'a str,
     options: &'a [CommandOption<'a>],
     words: &'a [&'a str],
 ) -> Result<Option<Vec<Value>>, AllocError>
-    requires { are_named options.now ≡ true }
+    requires { is_table options.now ≡ true }
     ensures { IfOk result (λ found. (values : List Value) → (option_map (λ given. given.items) found ≡ Some values) ↔ Gives options.entry.now (map (λ word. word.now) words.entry.now) values) }
 {
     if has_stray(words) {
@@ -78,7 +78,12 @@ pub fn read_words<'a>(
     }
     let command = command(alloc, name, options)?;
     match command.try_get_matches_from(words) {
-        Ok(matches) => values_of(alloc, &matches, options),
+        Ok(matches) => {
+            if !all_meet_needs(&matches, options) {
+                return Ok(None);
+            }
+            values_of(alloc, &matches, options)
+        }
         Err(error) => match error.kind() {
             ErrorKind::OutOfMemory => Err(AllocError),
             _ => Ok(None),
