@@ -1,10 +1,9 @@
 -- What clap builds of a command that has only options and flags.
-use Rattle.std.proofs.Common.{◌≡◌, ℕ, Bool, true, false, List, [], ◌∷◌, map, refl, ap, ◌∙◌, sym}
-use Rattle.std.specs.Prelude.{◌&&◌, ◌||◌, not}
+use Rattle.std.proofs.Common.{◌≡◌, ℕ, Bool, true, false, List, [], ◌∷◌, map, refl, ap}
+use Rattle.std.specs.Prelude.{◌&&◌, not}
 use Rattle.std.specs.List.{list_all, list_any}
-use Rattle.clap.specs.Kinds.{Kinds}
-use Rattle.clap.specs.Walk.{Row, Rule, is_early_multiple, nothing_held, rows_after}
-use Rattle.clap.specs.Simple.{App, Shape, new_shape, built, filled_from, is_simple, matches_of, names_of}
+use Rattle.clap.specs.Walk.{Rule, is_early_multiple, nothing_held, rows_after}
+use Rattle.clap.specs.Simple.{App, new_shape, built, filled_from, is_simple, matches_of, names_of}
 use Rattle.clap.specs.Faults.{built_fault, fault_of, is_simple_and_free}
 use Rattle.command_words.specs.Words.{Text}
 use Rattle.command_words.specs.Reader.{Choice, value, flag, app_with, rule_of_choice}

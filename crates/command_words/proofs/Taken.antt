@@ -1,11 +1,11 @@
 -- What clap makes of the words of a command is what they spell.
-use Rattle.std.proofs.Common.{◌≡◌, ◌⊎◌, inl, inr, ◌↔◌, Bool, true, false, not, List, [], ◌∷◌, ◌++◌, map, Option, Some, None, is_some, refl, ap, ◌∙◌, sym, subst, codes}
+use Rattle.std.proofs.Common.{◌≡◌, ◌⊎◌, inl, inr, ◌↔◌, Bool, true, false, not, List, [], ◌∷◌, map, Option, Some, None, is_some, refl, ap, ◌∙◌, sym, subst}
 use Rattle.std.specs.Prelude.{◌&&◌, ◌||◌, if◌then◌else◌, option_map, option_and_then, fold}
 use Rattle.std.specs.Prelude.{Result, Ok, Err, IfOk}
 use Rattle.std.specs.List.{list_all, list_any}
 use Rattle.std.specs.Option.{option_map_or}
 use Rattle.std.specs.Borrow.{Bor}
-use Rattle.clap.specs.Matches.{first_value, found_of, one_text}
+use Rattle.clap.specs.Matches.{found_of}
 use Rattle.clap.specs.declared.parser.matches.ArgMatches.{ArgMatches}
 use Rattle.clap.proofs.WalkLemmas.{first_value-rows, one_text-rows}
 use Rattle.clap.specs.Kinds.{IsAmong, Kinds}
@@ -17,17 +17,17 @@ use Rattle.command_words.specs.declared.options.CommandOption.{CommandOption}
 use Rattle.command_words.specs.declared.options.Takes.{Takes}
 use Rattle.command_words.specs.declared.options.Takes.TheVariants as takes
 use Rattle.command_words.specs.declared.options.Value.{Value}
-use Rattle.command_words.specs.Words.{Text, Item, begins_with_hyphen, text_of, has_name}
-use Rattle.command_words.specs.Options.{is_built, are_named, is_known, is_need_known, meets_need, values_in, Gives}
+use Rattle.command_words.specs.Words.{Text, Item, begins_with_hyphen}
+use Rattle.command_words.specs.Options.{are_named, is_known, is_need_known, meets_need, values_in, Gives}
 use Rattle.command_words.specs.Reader.{Choice, value, flag, choice_of, choice_by, choices_of, dashed, is_stray, name_in, value_after, and_then, read, read_item, read_word, once_after, if_once, items_of, AgreesBy, AgreesOn, AllAgree}
 use Rattle.command_words.proofs.Rules.{rules_for}
 use Rattle.command_words.proofs.Turns.{none}
 use Rattle.command_words.proofs.Runs.{NoStray, ready, adds, run, run_is_read}
 use Rattle.command_words.proofs.Faults.{app_for, end_of, fault_is_run, run_is_walk, start}
-use Rattle.command_words.proofs.Found.{AllOfChoices, NoFlag, adds_are_rows, first_of_finished, first_of_items, read_of_choices, rows_for}
+use Rattle.command_words.proofs.Found.{AllOfChoices, adds_are_rows, first_of_finished, first_of_items, read_of_choices, rows_for}
 use Rattle.command_words.proofs.Flags.{flag_text}
 use Rattle.command_words.proofs.Spelled.{read_spells, spells_read}
-use Rattle.command_words.proofs.Known.{IsChosen, IsClear, AllChosen, all_chosen, all_names, and_both, known_choice, known_choices, choices_known, once_is}
+use Rattle.command_words.proofs.Known.{IsClear, AllChosen, all_names, and_both, known_choice, known_choices, choices_known, once_is}
 
 clash : {P : Type 0} (b : Bool) → b ≡ true → b ≡ false → P
 clash true p q = absurd (let x : ⊥ = cc in x)

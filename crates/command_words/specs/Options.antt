@@ -1,5 +1,5 @@
 -- The values that words give the options of a command.
-use Rattle.std.specs.Prelude.{◌≡◌, ℕ, ◌==◌, ◌&&◌, Bool, true, false, not, ℤ, int_le, nat_le, List, [], ◌∷◌, length, Option, Some, None, is_some, if◌then◌else◌, find, option_map, option_and_then}
+use Rattle.std.specs.Prelude.{◌≡◌, ◌==◌, ◌&&◌, Bool, true, false, not, ℤ, int_le, nat_le, List, [], ◌∷◌, length, Option, Some, None, is_some, if◌then◌else◌, find, option_map, option_and_then}
 use Rattle.std.specs.List.{list_all, list_any}
 use Rattle.std.specs.Option.{option_map_or}
 use Rattle.std.specs.Str.{bytes_eq}

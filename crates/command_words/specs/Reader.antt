@@ -1,6 +1,6 @@
 -- How the words are read, word by word, and what clap is told of a command. Nobody has to believe this file: the clause of
 -- `read_words` speaks of `Words` and `Options` alone.
-use Rattle.std.specs.Prelude.{◌≡◌, ℕ, ◌==◌, ◌&&◌, Bool, true, false, not, List, [], ◌∷◌, ◌++◌, map, Option, Some, None, is_some, if◌then◌else◌, find, option_map, option_and_then, codes}
+use Rattle.std.specs.Prelude.{◌≡◌, ◌==◌, ◌&&◌, Bool, true, not, List, [], ◌∷◌, ◌++◌, map, Option, Some, None, is_some, if◌then◌else◌, find, option_map, option_and_then, codes}
 use Rattle.std.specs.List.{before_first, after_first, list_any}
 use Rattle.std.specs.Str.{bytes_eq}
 use Rattle.std.specs.Borrow.{Bor}

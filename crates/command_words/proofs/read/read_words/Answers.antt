@@ -1,6 +1,6 @@
 use Rattle.std.proofs.Common.{◌≡◌, ◌∙◌, List, [], sym, ap, subst, map, option_map}
 use Rattle.std.specs.Prelude.{◌↔◌, Some}
-use Rattle.clap.specs.Words.{App, HasKind, found_of, kind_of, rows_of, matches_of}
+use Rattle.clap.specs.Words.{HasKind, found_of, kind_of, rows_of, matches_of}
 use Rattle.clap.specs.Walk.{rows_after, nothing_held}
 use Rattle.clap.specs.Faults.{built_fault, fault_of, is_simple_and_free}
 use Rattle.clap.specs.Simple.{is_simple}
