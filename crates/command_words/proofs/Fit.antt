@@ -3,13 +3,12 @@ use Rattle.std.proofs.Common.{◌≡◌, Bool, true, false, List, [], ◌∷◌,
 use Rattle.std.specs.Prelude.{◌&&◌, if◌then◌else◌, option_map, option_and_then}
 use Rattle.std.specs.List.{list_all}
 use Rattle.num_row.specs.Decimals.{decimal_value}
-use Rattle.command_words.specs.declared.options.CommandOption.{CommandOption}
 use Rattle.command_words.specs.declared.options.Takes.{Takes}
 use Rattle.command_words.specs.declared.options.Takes.TheVariants as takes
 use Rattle.command_words.specs.declared.options.Value.{Value}
 use Rattle.command_words.specs.declared.options.Value.TheVariants as value
 use Rattle.command_words.specs.Words.{Text, Item, text_of}
-use Rattle.command_words.specs.Options.{is_built, is_number, is_between, number_in, number_or, default_of, given_to, value_in, values_in, has_default, is_table, Gives}
+use Rattle.command_words.specs.Options.{OptionRule, is_built, is_number, is_between, number_in, number_or, default_of, given_to, value_in, values_in, has_default, is_table, Gives}
 use Rattle.command_words.specs.Values.{Fits, AllFit}
 use Rattle.command_words.proofs.Known.{and_both, defaults_fit}
 
@@ -44,14 +43,14 @@ given_fits : (t : Takes) (name : Text) (items : List Item) (v : Value) → has_d
 given_fits takes.Flag name items v d h = subst (Fits takes.Flag) (some_is _ v h) tt
 given_fits (takes.Number least most default) name items v d h = number_fits least most default (text_of name items) v d h
 
-value_fits : (items : List Item) (o : CommandOption) (v : Value) → has_default o.takes ≡ true → value_in items o ≡ Some v → Fits o.takes v
+value_fits : (items : List Item) (o : OptionRule) (v : Value) → has_default o.takes ≡ true → value_in items o ≡ Some v → Fits o.takes v
 value_fits items o v d h = step (is_built o) h
   where
-    step : (b : Bool) → (if b then given_to o.takes o.name.now items else Some (default_of o.takes)) ≡ Some v → Fits o.takes v
-    step true k = given_fits o.takes o.name.now items v d k
+    step : (b : Bool) → (if b then given_to o.takes o.name items else Some (default_of o.takes)) ≡ Some v → Fits o.takes v
+    step true k = given_fits o.takes o.name items v d k
     step false k = subst (Fits o.takes) (some_is (default_of o.takes) v k) (default_fits o.takes d)
 
-values_fit : (items : List Item) (options : List CommandOption) (values : List Value) → list_all (λ o. has_default o.takes) options ≡ true → values_in items options ≡ Some values → AllFit options values
+values_fit : (items : List Item) (options : List OptionRule) (values : List Value) → list_all (λ o. has_default o.takes) options ≡ true → values_in items options ≡ Some values → AllFit options values
 values_fit items [] values d h = subst (AllFit []) (some_is [] values h) tt
 values_fit items (o ∷ os) values d h = step (value_in items o) refl (values_in items os) refl h (λ rest. values_fit items os rest parts.1)
   where
@@ -65,5 +64,5 @@ values_fit items (o ∷ os) values d h = step (value_in items o) refl (values_in
     step (Some v) e (Some l) f k ih = subst (AllFit (o ∷ os)) (some_is (v ∷ l) values k) (value_fits items o v parts.0 e, ih l f)
 
 -- what words give fits the options
-pub gives_fit : (options : List CommandOption) (words : List Text) (values : List Value) → is_table options ≡ true → Gives options words values → AllFit options values
+pub gives_fit : (options : List OptionRule) (words : List Text) (values : List Value) → is_table options ≡ true → Gives options words values → AllFit options values
 gives_fit options words values t g = values_fit g.items options values (defaults_fit options t) g.valued

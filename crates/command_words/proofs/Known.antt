@@ -5,11 +5,10 @@ use Rattle.std.specs.List.{list_all}
 use Rattle.std.specs.Option.{option_map_or}
 use Rattle.std.specs.Str.{bytes_eq}
 use Rattle.std.proofs.lemmas.Slice.Eq.{bytes_eq-Decides}
-use Rattle.command_words.specs.declared.options.CommandOption.{CommandOption}
 use Rattle.command_words.specs.declared.options.Takes.{Takes}
 use Rattle.command_words.specs.declared.options.Takes.TheVariants as takes
 use Rattle.command_words.specs.Words.{Text, Item, has_name, are_once}
-use Rattle.command_words.specs.Options.{is_built, is_name, has_option, are_named, accepts, option_of, is_known, is_need_known, has_default, is_table}
+use Rattle.command_words.specs.Options.{OptionRule, is_built, is_name, has_option, are_named, accepts, option_of, is_known, is_need_known, has_default, is_table}
 use Rattle.command_words.specs.Reader.{Choice, value, flag, name_of, choice_of, choice_by, choice_for, choices_of, once_after}
 use Rattle.command_words.proofs.Runs.{found_name}
 use Rattle.command_words.proofs.Found.{IsOfChoice, AllOfChoices, NoFlag}
@@ -39,14 +38,14 @@ name_by : (t : Takes) (n : Text) → name_of (choice_by t n) ≡ n
 name_by takes.Flag n = refl
 name_by (takes.Number least most default) n = refl
 
-pub all_names : (options : List CommandOption) → are_named options ≡ true → AllNames (choices_of options)
+pub all_names : (options : List OptionRule) → are_named options ≡ true → AllNames (choices_of options)
 all_names [] h = refl
 all_names (o ∷ os) h =
-    let parts = and_both (is_name o.name.now) _ h in
-    step (is_built o) parts.0 (all_names os (and_both (not (has_option o.name.now os)) _ parts.1).1)
+    let parts = and_both (is_name o.name) _ h in
+    step (is_built o) parts.0 (all_names os (and_both (not (has_option o.name os)) _ parts.1).1)
   where
-    step : (b : Bool) → is_name o.name.now ≡ true → AllNames (choices_of os) → AllNames (if b then choice_for o ∷ choices_of os else choices_of os)
-    step true n rest = ap (λ t. is_name t && list_all (λ c. is_name (name_of c)) (choices_of os)) (name_by o.takes o.name.now) ∙ ap (λ p. p && list_all (λ c. is_name (name_of c)) (choices_of os)) n ∙ rest
+    step : (b : Bool) → is_name o.name ≡ true → AllNames (choices_of os) → AllNames (if b then choice_for o ∷ choices_of os else choices_of os)
+    step true n rest = ap (λ t. is_name t && list_all (λ c. is_name (name_of c)) (choices_of os)) (name_by o.takes o.name) ∙ ap (λ p. p && list_all (λ c. is_name (name_of c)) (choices_of os)) n ∙ rest
     step false n rest = rest
 
 -- ---- The choice of each option
@@ -56,10 +55,10 @@ abbrev pub IsClear : List Choice → Takes → Text → Type 0
 IsClear cs takes.Flag name = Unit {0}
 IsClear cs (takes.Number least most default) name = NoFlag name cs
 
-abbrev pub IsChosen : List Choice → CommandOption → Type 0
-IsChosen cs o = is_built o ≡ true → (choice_of cs o.name.now ≡ Some (choice_for o)) × IsClear cs o.takes o.name.now
+abbrev pub IsChosen : List Choice → OptionRule → Type 0
+IsChosen cs o = is_built o ≡ true → (choice_of cs o.name ≡ Some (choice_for o)) × IsClear cs o.takes o.name
 
-abbrev pub AllChosen : List Choice → List CommandOption → Type 0
+abbrev pub AllChosen : List Choice → List OptionRule → Type 0
 AllChosen cs [] = Unit {0}
 AllChosen cs (o ∷ os) = IsChosen cs o × AllChosen cs os
 
@@ -68,32 +67,32 @@ clear_behind c cs takes.Flag n h k = tt
 clear_behind (value m) cs (takes.Number least most default) n h k = k
 clear_behind (flag m) cs (takes.Number least most default) n h k = (h, k)
 
-chosen_behind : (c : Choice) (cs : List Choice) (options : List CommandOption) → has_option (name_of c) options ≡ false → AllChosen cs options → AllChosen (c ∷ cs) options
+chosen_behind : (c : Choice) (cs : List Choice) (options : List OptionRule) → has_option (name_of c) options ≡ false → AllChosen cs options → AllChosen (c ∷ cs) options
 chosen_behind c cs [] h all = tt
 chosen_behind c cs (o ∷ os) h all =
-    let parts = or_false (bytes_eq (name_of c) o.name.now) _ h in
-    (λ b. (ap (λ p. if p then Some c else choice_of cs o.name.now) parts.0 ∙ (all.0 b).0, clear_behind c cs o.takes o.name.now parts.0 (all.0 b).1), chosen_behind c cs os parts.1 all.1)
+    let parts = or_false (bytes_eq (name_of c) o.name) _ h in
+    (λ b. (ap (λ p. if p then Some c else choice_of cs o.name) parts.0 ∙ (all.0 b).0, clear_behind c cs o.takes o.name parts.0 (all.0 b).1), chosen_behind c cs os parts.1 all.1)
 
-no_flag : (n : Text) (options : List CommandOption) → has_option n options ≡ false → NoFlag n (choices_of options)
+no_flag : (n : Text) (options : List OptionRule) → has_option n options ≡ false → NoFlag n (choices_of options)
 no_flag n [] h = tt
 no_flag n (o ∷ os) h =
-    let parts = or_false (bytes_eq n o.name.now) _ h in
+    let parts = or_false (bytes_eq n o.name) _ h in
     step (is_built o) (no_flag n os parts.1) (other parts.0)
   where
-    same_bytes : (b : Bool) → bytes_eq o.name.now n ≡ b → bytes_eq n o.name.now ≡ false → bytes_eq o.name.now n ≡ false
+    same_bytes : (b : Bool) → bytes_eq o.name n ≡ b → bytes_eq n o.name ≡ false → bytes_eq o.name n ≡ false
     same_bytes true e k =
-        let same = (bytes_eq-Decides o.name.now n).0 e in
+        let same = (bytes_eq-Decides o.name n).0 e in
         true_no (sym (subst (λ t. bytes_eq n t ≡ true) (sym same) ((bytes_eq-Decides n n).1 refl)) ∙ k)
     same_bytes false e k = e
 
-    other : bytes_eq n o.name.now ≡ false → bytes_eq o.name.now n ≡ false
-    other k = same_bytes (bytes_eq o.name.now n) refl k
+    other : bytes_eq n o.name ≡ false → bytes_eq o.name n ≡ false
+    other k = same_bytes (bytes_eq o.name n) refl k
 
-    by_kind : (t : Takes) → bytes_eq o.name.now n ≡ false → NoFlag n (choices_of os) → NoFlag n (choice_by t o.name.now ∷ choices_of os)
+    by_kind : (t : Takes) → bytes_eq o.name n ≡ false → NoFlag n (choices_of os) → NoFlag n (choice_by t o.name ∷ choices_of os)
     by_kind takes.Flag e rest = (e, rest)
     by_kind (takes.Number least most default) e rest = rest
 
-    step : (b : Bool) → NoFlag n (choices_of os) → bytes_eq o.name.now n ≡ false → NoFlag n (if b then choice_for o ∷ choices_of os else choices_of os)
+    step : (b : Bool) → NoFlag n (choices_of os) → bytes_eq o.name n ≡ false → NoFlag n (if b then choice_for o ∷ choices_of os else choices_of os)
     step true rest e = by_kind o.takes e rest
     step false rest e = rest
 
@@ -102,26 +101,26 @@ here takes.Flag n cs free = (ap (λ b. if b then Some (flag n) else choice_of cs
 here (takes.Number least most default) n cs free = (ap (λ b. if b then Some (value n) else choice_of cs n) ((bytes_eq-Decides n n).1 refl), free)
 
 -- each option is found by its name
-pub all_chosen : (options : List CommandOption) → are_named options ≡ true → AllChosen (choices_of options) options
+pub all_chosen : (options : List OptionRule) → are_named options ≡ true → AllChosen (choices_of options) options
 all_chosen [] h = tt
 all_chosen (o ∷ os) h =
-    let parts = and_both (is_name o.name.now) _ h in
-    let more = and_both (not (has_option o.name.now os)) _ parts.1 in
+    let parts = and_both (is_name o.name) _ h in
+    let more = and_both (not (has_option o.name os)) _ parts.1 in
     step (is_built o) refl (not_true _ more.0) (all_chosen os more.1)
   where
-    step : (b : Bool) → is_built o ≡ b → has_option o.name.now os ≡ false → AllChosen (choices_of os) os
+    step : (b : Bool) → is_built o ≡ b → has_option o.name os ≡ false → AllChosen (choices_of os) os
         → AllChosen (if b then choice_for o ∷ choices_of os else choices_of os) (o ∷ os)
     step true e free rest = (
-      λ b. here o.takes o.name.now (choices_of os) (no_flag o.name.now os free),
-      chosen_behind (choice_for o) (choices_of os) os (subst (λ t. has_option t os ≡ false) (sym (name_by o.takes o.name.now)) free) rest,
+      λ b. here o.takes o.name (choices_of os) (no_flag o.name os free),
+      chosen_behind (choice_for o) (choices_of os) os (subst (λ t. has_option t os ≡ false) (sym (name_by o.takes o.name)) free) rest,
     )
     step false e free rest = (λ b. true_no (sym b ∙ e), rest)
 
 -- ---- Items
 
-chosen_of : (options : List CommandOption) (n : Text) → choice_of (choices_of options) n ≡ option_map choice_for (option_of options n)
+chosen_of : (options : List OptionRule) (n : Text) → choice_of (choices_of options) n ≡ option_map choice_for (option_of options n)
 chosen_of [] n = refl
-chosen_of (o ∷ os) n = step (is_built o) (bytes_eq o.name.now n) (ap (λ t. bytes_eq t n) (name_by o.takes o.name.now)) (chosen_of os n)
+chosen_of (o ∷ os) n = step (is_built o) (bytes_eq o.name n) (ap (λ t. bytes_eq t n) (name_by o.takes o.name)) (chosen_of os n)
   where
     step : (b same : Bool) → bytes_eq (name_of (choice_for o)) n ≡ same → choice_of (choices_of os) n ≡ option_map choice_for (option_of os n)
         → choice_of (if b then choice_for o ∷ choices_of os else choices_of os) n ≡ option_map choice_for (if b && same then Some o else option_of os n)
@@ -143,19 +142,19 @@ value_named cs m n h = h ∙ ap (λ t. Some (value t)) (found_name cs m (value n
 flag_named : (cs : List Choice) (m n : Text) → choice_of cs m ≡ Some (flag n) → choice_of cs m ≡ Some (flag m)
 flag_named cs m n h = h ∙ ap (λ t. Some (flag t)) (found_name cs m (flag n) h)
 
-pub known_choice : (options : List CommandOption) (item : Item) → is_known options item ≡ true → IsOfChoice (choices_of options) item
+pub known_choice : (options : List OptionRule) (item : Item) → is_known options item ≡ true → IsOfChoice (choices_of options) item
 known_choice options (m, Some v) h = step (option_of options m) (chosen_of options m) h
   where
-    step : (found : Option CommandOption) → choice_of (choices_of options) m ≡ option_map choice_for found → option_map_or (λ o. accepts o.takes (Some v)) found false ≡ true → choice_of (choices_of options) m ≡ Some (value m)
+    step : (found : Option OptionRule) → choice_of (choices_of options) m ≡ option_map choice_for found → option_map_or (λ o. accepts o.takes (Some v)) found false ≡ true → choice_of (choices_of options) m ≡ Some (value m)
     step None e k = no_true k
-    step (Some o) e k = value_named (choices_of options) m o.name.now (e ∙ ap Some (kind_value o.takes o.name.now v k))
+    step (Some o) e k = value_named (choices_of options) m o.name (e ∙ ap Some (kind_value o.takes o.name v k))
 known_choice options (m, None) h = step (option_of options m) (chosen_of options m) h
   where
-    step : (found : Option CommandOption) → choice_of (choices_of options) m ≡ option_map choice_for found → option_map_or (λ o. accepts o.takes None) found false ≡ true → choice_of (choices_of options) m ≡ Some (flag m)
+    step : (found : Option OptionRule) → choice_of (choices_of options) m ≡ option_map choice_for found → option_map_or (λ o. accepts o.takes None) found false ≡ true → choice_of (choices_of options) m ≡ Some (flag m)
     step None e k = no_true k
-    step (Some o) e k = flag_named (choices_of options) m o.name.now (e ∙ ap Some (kind_flag o.takes o.name.now k))
+    step (Some o) e k = flag_named (choices_of options) m o.name (e ∙ ap Some (kind_flag o.takes o.name k))
 
-pub known_choices : (options : List CommandOption) (items : List Item) → list_all (is_known options) items ≡ true → AllOfChoices (choices_of options) items
+pub known_choices : (options : List OptionRule) (items : List Item) → list_all (is_known options) items ≡ true → AllOfChoices (choices_of options) items
 known_choices options [] h = tt
 known_choices options (item ∷ items) h =
     let parts = and_both (is_known options item) _ h in
@@ -169,19 +168,19 @@ accepts_flag : (t : Takes) (n m : Text) → choice_by t n ≡ flag m → accepts
 accepts_flag takes.Flag n m h = refl
 accepts_flag (takes.Number least most default) n m h = absurd (let x : ⊥ = cc in x)
 
-choice_known : (options : List CommandOption) (item : Item) → IsOfChoice (choices_of options) item → is_known options item ≡ true
+choice_known : (options : List OptionRule) (item : Item) → IsOfChoice (choices_of options) item → is_known options item ≡ true
 choice_known options (m, Some v) h = step (option_of options m) (sym (chosen_of options m) ∙ h)
   where
-    step : (found : Option CommandOption) → option_map choice_for found ≡ Some (value m) → option_map_or (λ o. accepts o.takes (Some v)) found false ≡ true
+    step : (found : Option OptionRule) → option_map choice_for found ≡ Some (value m) → option_map_or (λ o. accepts o.takes (Some v)) found false ≡ true
     step None e = absurd (let x : ⊥ = cc in x)
-    step (Some o) e = accepts_value o.takes o.name.now m v (let same : choice_for o ≡ value m = cc in same)
+    step (Some o) e = accepts_value o.takes o.name m v (let same : choice_for o ≡ value m = cc in same)
 choice_known options (m, None) h = step (option_of options m) (sym (chosen_of options m) ∙ h)
   where
-    step : (found : Option CommandOption) → option_map choice_for found ≡ Some (flag m) → option_map_or (λ o. accepts o.takes None) found false ≡ true
+    step : (found : Option OptionRule) → option_map choice_for found ≡ Some (flag m) → option_map_or (λ o. accepts o.takes None) found false ≡ true
     step None e = absurd (let x : ⊥ = cc in x)
-    step (Some o) e = accepts_flag o.takes o.name.now m (let same : choice_for o ≡ flag m = cc in same)
+    step (Some o) e = accepts_flag o.takes o.name m (let same : choice_for o ≡ flag m = cc in same)
 
-pub choices_known : (options : List CommandOption) (items : List Item) → AllOfChoices (choices_of options) items → list_all (is_known options) items ≡ true
+pub choices_known : (options : List OptionRule) (items : List Item) → AllOfChoices (choices_of options) items → list_all (is_known options) items ≡ true
 choices_known options [] all = refl
 choices_known options (item ∷ items) all = ap (λ b. b && list_all (is_known options) items) (choice_known options item all.0) ∙ choices_known options items all.1
 
@@ -255,10 +254,10 @@ once_is items = once_behind [] items ∙ ap (λ b. are_once items && b) (all_lac
 
 -- ---- A table
 
-pub is_table_parts : (options : List CommandOption) → is_table options ≡ true → (are_named options ≡ true) × (list_all (is_need_known options) options ≡ true)
+pub is_table_parts : (options : List OptionRule) → is_table options ≡ true → (are_named options ≡ true) × (list_all (is_need_known options) options ≡ true)
 is_table_parts options h =
     let parts = and_both (are_named options) _ h in
     (parts.0, (and_both (list_all (is_need_known options) options) _ parts.1).0)
 
-pub defaults_fit : (options : List CommandOption) → is_table options ≡ true → list_all (λ o. has_default o.takes) options ≡ true
+pub defaults_fit : (options : List OptionRule) → is_table options ≡ true → list_all (λ o. has_default o.takes) options ≡ true
 defaults_fit options h = (and_both (list_all (is_need_known options) options) _ (and_both (are_named options) _ h).1).1

@@ -13,12 +13,11 @@ use Rattle.clap.specs.declared.error.kind.ErrorKind.{ErrorKind}
 use Rattle.clap.specs.declared.error.kind.ErrorKind.TheVariants.{OutOfMemory}
 use Rattle.clap.specs.Walk.{Row, first_of, nothing_held, one_of, rows_after, rows_of, settled, with_default}
 use Rattle.clap.specs.Faults.{built_fault}
-use Rattle.command_words.specs.declared.options.CommandOption.{CommandOption}
 use Rattle.command_words.specs.declared.options.Takes.{Takes}
 use Rattle.command_words.specs.declared.options.Takes.TheVariants as takes
 use Rattle.command_words.specs.declared.options.Value.{Value}
 use Rattle.command_words.specs.Words.{Text, Item, begins_with_hyphen}
-use Rattle.command_words.specs.Options.{are_named, is_known, is_need_known, meets_need, values_in, Gives}
+use Rattle.command_words.specs.Options.{OptionRule, are_named, is_known, is_need_known, meets_need, values_in, Gives}
 use Rattle.command_words.specs.Reader.{Choice, value, flag, choice_of, choice_by, choices_of, dashed, is_stray, name_in, value_after, and_then, read, read_item, read_word, once_after, if_once, items_of, AgreesBy, AgreesOn, AllAgree}
 use Rattle.command_words.proofs.Rules.{rules_for}
 use Rattle.command_words.proofs.Turns.{none}
@@ -176,21 +175,21 @@ agrees_by cs m items takes.Flag n known clear all rows = one_text-rows (found_of
 agrees_by cs m items (takes.Number least most default) n known clear all rows =
     first_value-rows (found_of m) n ∙ ap (first_of n) rows ∙ first_of_finished cs n (rows_for items) clear ∙ first_of_items cs n items known all
 
-agrees_on : (options : List CommandOption) (m : ArgMatches) (items : List Item) (needs : Option (Bor Text)) → option_map_or (λ name. is_known options (name.now, None)) needs true ≡ true
+agrees_on : (options : List OptionRule) (m : ArgMatches) (items : List Item) (needs : Option Text) → option_map_or (λ name. is_known options (name, None)) needs true ≡ true
     → AllOfChoices (choices_of options) items → rows_of (found_of m) ≡ fold with_default (rows_for items) (rules_for (choices_of options)) → AgreesOn needs m items
 agrees_on options m items None known all rows = tt
 agrees_on options m items (Some name) known all rows =
-    agrees_by (choices_of options) m items takes.Flag name.now (known_choice options (name.now, None) known) tt all rows
+    agrees_by (choices_of options) m items takes.Flag name (known_choice options (name, None) known) tt all rows
 
-module _ (options : List CommandOption) (m : ArgMatches) (items : List Item) (all : AllOfChoices (choices_of options) items)
+module _ (options : List OptionRule) (m : ArgMatches) (items : List Item) (all : AllOfChoices (choices_of options) items)
     (rows : rows_of (found_of m) ≡ fold with_default (rows_for items) (rules_for (choices_of options))) where
-  pub all_agree : (os : List CommandOption) → AllChosen (choices_of options) os → list_all (is_need_known options) os ≡ true → AllAgree m items os
+  pub all_agree : (os : List OptionRule) → AllChosen (choices_of options) os → list_all (is_need_known options) os ≡ true → AllAgree m items os
   all_agree [] chosen needs = tt
   all_agree (o ∷ os) chosen needs =
       let parts = and_both (is_need_known options o) _ needs in (
         λ b. (
-          agrees_by (choices_of options) m items o.takes o.name.now (chosen.0 b).0 (chosen.0 b).1 all rows,
-          agrees_on options m items o.needs (sym (ap (λ p. if p then option_map_or (λ name. is_known options (name.now, None)) o.needs true else true) b) ∙ parts.0) all rows,
+          agrees_by (choices_of options) m items o.takes o.name (chosen.0 b).0 (chosen.0 b).1 all rows,
+          agrees_on options m items o.needs (sym (ap (λ p. if p then option_map_or (λ name. is_known options (name, None)) o.needs true else true) b) ∙ parts.0) all rows,
         ),
         all_agree os chosen.1 parts.1,
       )
@@ -198,7 +197,7 @@ module _ (options : List CommandOption) (m : ArgMatches) (items : List Item) (al
 -- ---- The answer
 
 -- the words are those of items that are read
-given_items : (options : List CommandOption) (words : List Text) (values : List Value) → are_named options ≡ true → (g : Gives options words values) → items_of (choices_of options) words ≡ Some g.items
+given_items : (options : List OptionRule) (words : List Text) (values : List Value) → are_named options ≡ true → (g : Gives options words values) → items_of (choices_of options) words ≡ Some g.items
 given_items options words values named g =
     ap (option_and_then if_once) (spells_read (choices_of options) g.items words (all_names options named) (known_choices options g.items g.known) g.spelled)
     ∙ ap (λ b. if b then Some g.items else None) (once_is g.items ∙ g.once)
@@ -209,7 +208,7 @@ no_some x h = absurd (let y : ⊥ = cc in y)
 some_is : {X : Type 0} (x y : X) → Some x ≡ Some y → x ≡ y
 some_is x y h = cc
 
-pub nothing_given : (options : List CommandOption) (words : List Text) → are_named options ≡ true → items_of (choices_of options) words ≡ None
+pub nothing_given : (options : List OptionRule) (words : List Text) → are_named options ≡ true → items_of (choices_of options) words ≡ None
     → (values : List Value) → (None ≡ Some values) ↔ Gives options words values
 nothing_given options words named e values = (λ h. no_some values h, λ g. no_some g.items (sym e ∙ given_items options words values named g))
 
@@ -224,7 +223,7 @@ items_read cs words items e = by_read (read cs None words) refl e
     by_read None r h = no_some items h
     by_read (Some o) r h = by_once o r (once_after [] o) refl h
 
-module _ (options : List CommandOption) (words : List Text) (items : List Item) (named : are_named options ≡ true) (e : items_of (choices_of options) words ≡ Some items) where
+module _ (options : List OptionRule) (words : List Text) (items : List Item) (named : are_named options ≡ true) (e : items_of (choices_of options) words ≡ Some items) where
   facts : (read (choices_of options) None words ≡ Some items) × (once_after [] items ≡ true)
   facts = items_read (choices_of options) words items e
 

@@ -3,16 +3,14 @@
 use Rattle.std.specs.Prelude.{◌≡◌, ◌==◌, ◌&&◌, Bool, true, not, List, [], ◌∷◌, ◌++◌, map, Option, Some, None, is_some, if◌then◌else◌, find, option_map, option_and_then, codes}
 use Rattle.std.specs.List.{before_first, after_first, list_any}
 use Rattle.std.specs.Str.{bytes_eq}
-use Rattle.std.specs.Borrow.{Bor}
 use Rattle.clap.specs.Words.{App, Rule, new_rule, found_of, first_value, one_text}
 use Rattle.clap.specs.Simple.{new_shape}
 use Rattle.clap.specs.declared.builder.action.ArgAction.TheVariants.{Set, SetTrue}
 use Rattle.clap.specs.declared.parser.matches.ArgMatches.{ArgMatches}
-use Rattle.command_words.specs.declared.options.CommandOption.{CommandOption}
 use Rattle.command_words.specs.declared.options.Takes.{Takes}
 use Rattle.command_words.specs.declared.options.Takes.TheVariants as takes
 use Rattle.command_words.specs.Words.{Text, Item, begins_with_hyphen, has_name, text_of}
-use Rattle.command_words.specs.Options.{is_built}
+use Rattle.command_words.specs.Options.{OptionRule, is_built}
 
 -- ---- Words
 
@@ -85,11 +83,11 @@ abbrev pub choice_by : Takes → Text → Choice
 choice_by takes.Flag name = flag name
 choice_by (takes.Number least most default) name = value name
 
-abbrev pub choice_for : CommandOption → Choice
-choice_for option = choice_by option.takes option.name.now
+abbrev pub choice_for : OptionRule → Choice
+choice_for option = choice_by option.takes option.name
 
 -- what the program has of the options
-abbrev pub choices_of : List CommandOption → List Choice
+abbrev pub choices_of : List OptionRule → List Choice
 choices_of [] = []
 choices_of (option ∷ options) = if is_built option then choice_for option ∷ choices_of options else choices_of options
 
@@ -113,14 +111,14 @@ abbrev pub AgreesBy : Takes → Text → ArgMatches → List Item → Type 0
 AgreesBy takes.Flag name m items = one_text (found_of m) name ≡ Some (if has_name name items then codes "true" else codes "false")
 AgreesBy (takes.Number least most default) name m items = first_value (found_of m) name ≡ text_of name items
 
-abbrev pub AgreesOn : Option (Bor Text) → ArgMatches → List Item → Type 0
+abbrev pub AgreesOn : Option Text → ArgMatches → List Item → Type 0
 AgreesOn None m items = Unit {0}
-AgreesOn (Some name) m items = one_text (found_of m) name.now ≡ Some (if has_name name.now items then codes "true" else codes "false")
+AgreesOn (Some name) m items = one_text (found_of m) name ≡ Some (if has_name name items then codes "true" else codes "false")
 
 -- clap's matches have of a built option, and of the flag that it needs, what the items have
-abbrev pub Agrees : ArgMatches → List Item → CommandOption → Type 0
-Agrees m items option = is_built option ≡ true → AgreesBy option.takes option.name.now m items × AgreesOn option.needs m items
+abbrev pub Agrees : ArgMatches → List Item → OptionRule → Type 0
+Agrees m items option = is_built option ≡ true → AgreesBy option.takes option.name m items × AgreesOn option.needs m items
 
-abbrev pub AllAgree : ArgMatches → List Item → List CommandOption → Type 0
+abbrev pub AllAgree : ArgMatches → List Item → List OptionRule → Type 0
 AllAgree m items [] = Unit {0}
 AllAgree m items (option ∷ options) = Agrees m items option × AllAgree m items options

@@ -1,11 +1,10 @@
 -- The values at the places of a list, and values that fit their options.
 use Rattle.std.specs.Prelude.{◌≡◌, ℕ, Bool, true, false, ℤ, pos, negsuc, List, [], ◌∷◌, Option, Some, None, if◌then◌else◌, nat_lt, slice_get}
-use Rattle.command_words.specs.declared.options.CommandOption.{CommandOption}
 use Rattle.command_words.specs.declared.options.Takes.{Takes}
 use Rattle.command_words.specs.declared.options.Takes.TheVariants as takes
 use Rattle.command_words.specs.declared.options.Value.{Value}
 use Rattle.command_words.specs.declared.options.Value.TheVariants as value
-use Rattle.command_words.specs.Options.{is_between}
+use Rattle.command_words.specs.Options.{OptionRule, is_between}
 
 abbrev pub flag_of : Option Value → Bool
 flag_of None = false
@@ -41,7 +40,7 @@ Fits (takes.Number least most default) (value.Flag given) = ⊥
 Fits (takes.Number least most default) (value.Number n) = is_between least most n ≡ true
 
 -- each option has a value that it can have
-abbrev pub AllFit : List CommandOption → List Value → Type 0
+abbrev pub AllFit : List OptionRule → List Value → Type 0
 AllFit [] [] = Unit {0}
 AllFit [] (value ∷ values) = ⊥
 AllFit (option ∷ options) [] = ⊥

@@ -79,7 +79,7 @@ fn number_between(least: i64, most: i64, text: &[u8]) -> Option<i64>
 
 /// The value of an option, where its text is a number in its range.
 fn value_of(matches: &ArgMatches<'_>, option: &CommandOption<'_>) -> Option<Value>
-    ensures { (items : List Item) → Agrees matches.now items option.now → result ≡ spec.value_in items option.now }
+    ensures { (items : List Item) → Agrees matches.now items (spec.as_rule option.now) → result ≡ spec.value_in items (spec.as_rule option.now) }
 {
     if !option.is_built() {
         return Some(option.takes.default());
@@ -103,7 +103,7 @@ pub(crate) fn values_of(
     matches: &ArgMatches<'_>,
     options: &[CommandOption<'_>],
 ) -> Result<Option<Vec<Value>>, AllocError>
-    ensures { IfOk result (λ found. (items : List Item) → AllAgree matches.now items options.now → option_map (λ values. values.items) found ≡ spec.values_in items options.now) }
+    ensures { IfOk result (λ found. (items : List Item) → AllAgree matches.now items (spec.rules_of options.now) → option_map (λ values. values.items) found ≡ spec.values_in items (spec.rules_of options.now)) }
 {
     let mut values = Vec::new(alloc);
     for option in options {
@@ -127,7 +127,7 @@ fn is_given(matches: &ArgMatches<'_>, option: &CommandOption<'_>) -> bool
 
 /// Whether the flag that an option needs is given.
 fn has_need(matches: &ArgMatches<'_>, needs: Option<&str>) -> bool
-    ensures { (items : List Item) → AgreesOn needs.entry matches.now items → result ≡ spec.has_need items needs.entry }
+    ensures { (items : List Item) → let needed = option_map (λ name. name.now) needs.entry in AgreesOn needed matches.now items → result ≡ spec.has_need items needed }
 {
     match needs {
         Some(name) => matches.get_flag(name),
@@ -136,7 +136,7 @@ fn has_need(matches: &ArgMatches<'_>, needs: Option<&str>) -> bool
 }
 
 fn meets_need(matches: &ArgMatches<'_>, option: &CommandOption<'_>) -> bool
-    ensures { (items : List Item) → Agrees matches.now items option.now → result ≡ spec.meets_need items option.now }
+    ensures { (items : List Item) → Agrees matches.now items (spec.as_rule option.now) → result ≡ spec.meets_need items (spec.as_rule option.now) }
 {
     if option.is_built() && is_given(matches, option) {
         has_need(matches, option.needs)
@@ -147,7 +147,7 @@ fn meets_need(matches: &ArgMatches<'_>, option: &CommandOption<'_>) -> bool
 
 /// Whether each option that is given has the flag that it needs.
 pub(crate) fn all_meet_needs(matches: &ArgMatches<'_>, options: &[CommandOption<'_>]) -> bool
-    ensures { (items : List Item) → AllAgree matches.now items options.now → result ≡ list_all (spec.meets_need items) options.now }
+    ensures { (items : List Item) → AllAgree matches.now items (spec.rules_of options.now) → result ≡ list_all (spec.meets_need items) (spec.rules_of options.now) }
 {
     for option in options {
         if !meets_need(matches, option) {

@@ -40,7 +40,7 @@ pub enum Value {
 impl CommandOption<'_> {
     /// Whether the program has the option.
     pub(crate) fn is_built(&self) -> bool
-        ensures { result ≡ spec.is_built self.now }
+        ensures { result ≡ spec.is_built (spec.as_rule self.now) }
     {
         matches!(self.standing, Standing::Built)
     }

@@ -3,7 +3,7 @@ ghost use Rattle.std.specs.Prelude.{◌≡◌, ◌↔◌, Some, IfOk, map, optio
 ghost use Rattle.std.specs.List.{list_any};
 ghost use Rattle.clap.specs.Words.{app_of, rule_of};
 ghost use Rattle.command_words.specs.declared.options.Value.{Value};
-ghost use Rattle.command_words.specs.Options.{is_table, Gives};
+ghost use Rattle.command_words.specs.Options.{as_rule, rules_of, is_table, Gives};
 ghost use Rattle.command_words.specs.Reader as spec;
 
 use crate::matches::{all_meet_needs, values_of};
@@ -32,7 +32,7 @@ fn has_stray(words: &[&str]) -> bool
 
 /// What clap is told of an option.
 fn argument<'a>(alloc: Global, option: &CommandOption<'a>) -> Arg<'a>
-    ensures rule { rule_of result ≡ spec.rule_of_choice (spec.choice_for option.now) }
+    ensures rule { rule_of result ≡ spec.rule_of_choice (spec.choice_for (as_rule option.now)) }
     ensures own { result.global ≡ false }
 {
     let named = Arg::new(alloc, option.name).long(option.name);
@@ -48,7 +48,7 @@ fn command<'a>(
     name: &'a str,
     options: &[CommandOption<'a>],
 ) -> Result<Command<'a>, AllocError>
-    ensures { IfOk result (λ command. app_of command ≡ spec.app_with name.entry.now (spec.choices_of options.now)) }
+    ensures { IfOk result (λ command. app_of command ≡ spec.app_with name.entry.now (spec.choices_of (rules_of options.now))) }
 {
     let mut command = Command::new(alloc, name)
         .no_binary_name(true)
@@ -70,8 +70,8 @@ pub fn read_words<'a>(
     options: &'a [CommandOption<'a>],
     words: &'a [&'a str],
 ) -> Result<Option<Vec<Value>>, AllocError>
-    requires { is_table options.now ≡ true }
-    ensures { IfOk result (λ found. (values : List Value) → (option_map (λ given. given.items) found ≡ Some values) ↔ Gives options.entry.now (map (λ word. word.now) words.entry.now) values) }
+    requires { is_table (rules_of options.now) ≡ true }
+    ensures { IfOk result (λ found. (values : List Value) → (option_map (λ given. given.items) found ≡ Some values) ↔ Gives (rules_of options.entry.now) (map (λ word. word.now) words.entry.now) values) }
 {
     if has_stray(words) {
         return Ok(None);

@@ -6,7 +6,7 @@ use Rattle.clap.specs.Faults.{built_fault, fault_of, is_simple_and_free}
 use Rattle.clap.specs.Simple.{is_simple}
 use Rattle.command_words.specs.declared.options.Value.{Value}
 use Rattle.command_words.specs.Words.{Text, Item}
-use Rattle.command_words.specs.Options.{values_in, Gives}
+use Rattle.command_words.specs.Options.{rules_of, values_in, Gives}
 use Rattle.command_words.specs.Reader.{choices_of, AllAgree}
 use Rattle.command_words.proofs.Rules.{rules_for}
 use Rattle.command_words.proofs.Runs.{NoStray}
@@ -19,13 +19,13 @@ use Rattle.command_words.proofs.read.read_words.Goals as goal
 pub returns-then-has_stray : goal.returns-then-has_stray
 returns-then-has_stray c =
     let words : List Text = map (λ w. w.now) c.args.words.now in
-    nothing_given c.args.options.now words (is_table_parts c.args.options.now c.requires).0
-    (stray_items (choices_of c.args.options.now) words (sym (any_stray c.args.words.now) ∙ sym c.has_stray.ensures ∙ c.if-has_stray.true))
+    nothing_given (rules_of c.args.options.now) words (is_table_parts (rules_of c.args.options.now) c.requires).0
+    (stray_items (choices_of (rules_of c.args.options.now)) words (sym (any_stray c.args.words.now) ∙ sym c.has_stray.ensures ∙ c.if-has_stray.true))
 
 pub returns-then-not-all_meet_needs : goal.returns-then-not-all_meet_needs
 returns-then-not-all_meet_needs c =
     let words : List Text = map (λ w. w.now) c.args.words.now in
-    let options = c.args.options.now in
+    let options = rules_of c.args.options.now in
     let name = c.args.name.now in
     let cs = choices_of options in
     let table = is_table_parts options c.requires in
@@ -40,7 +40,7 @@ returns-then-not-all_meet_needs c =
 pub returns-in-Ok : goal.returns-in-Ok
 returns-in-Ok c =
     let words : List Text = map (λ w. w.now) c.args.words.now in
-    let options = c.args.options.now in
+    let options = rules_of c.args.options.now in
     let name = c.args.name.now in
     let cs = choices_of options in
     let table = is_table_parts options c.requires in
@@ -60,10 +60,10 @@ returns-in-Ok c =
 pub returns : goal.returns
 returns c =
     let words : List Text = map (λ w. w.now) c.args.words.now in
-    let cs = choices_of c.args.options.now in
+    let cs = choices_of (rules_of c.args.options.now) in
     let clean : NoStray words = clean_words words (sym (any_stray c.args.words.now) ∙ sym c.has_stray.ensures ∙ c.if-has_stray.false) in
     let app = c.in_ok-command.ensures in
     let kinds = c.in-Err.ensures.kinds (ap is_simple_and_free app ∙ app_is_free c.args.name.now cs) in
-    nothing_given c.args.options.now words (is_table_parts c.args.options.now c.requires).0
+    nothing_given (rules_of c.args.options.now) words (is_table_parts (rules_of c.args.options.now) c.requires).0
     (refused_by_kind c.args.name.now cs words clean (kind_of c.in-Err.error)
     (subst (λ ks. HasKind ks c.in-Err.error) (ap (λ a. fault_of a words) app ∙ fault_built c.args.name.now cs words) kinds) (λ h. c.in_default.not-OutOfMemory (c.kind.ensures ∙ h)))
