@@ -13,35 +13,7 @@ use Rattle.affine_driver.specs.declared.command.FirstWord.TheVariants as first
 use Rattle.affine_driver.specs.declared.command.OrderOptions.{OrderOptions}
 use Rattle.affine_driver.specs.declared.command.RunOptions.{RunOptions}
 use Rattle.affine_driver.specs.declared.command.StageOptions.{StageOptions}
-use Rattle.affine_driver.specs.declared.table.Entry.{Entry}
-use Rattle.affine_driver.specs.declared.table.TheConstants.{BOTH, CHECK, ORDER, PLAIN, REGIONS, RUN, SAMPLE, STAGE}
-
--- ---- Commands in the table
-
--- the command without its options
-abbrev pub word_of : Command → FirstWord
-word_of command.Check = first.Check
-word_of (command.Regions options) = first.Regions
-word_of (command.Stage options) = first.Stage
-word_of command.Plain = first.Plain
-word_of (command.Run options) = first.Run
-word_of (command.Order options) = first.Order
-word_of (command.Both options) = first.Both
-word_of (command.Sample options) = first.Sample
-
--- its entry in the table of commands
-abbrev pub entry_by : FirstWord → Entry
-entry_by first.Check = CHECK
-entry_by first.Regions = REGIONS
-entry_by first.Stage = STAGE
-entry_by first.Plain = PLAIN
-entry_by first.Run = RUN
-entry_by first.Order = ORDER
-entry_by first.Both = BOTH
-entry_by first.Sample = SAMPLE
-
-abbrev pub entry_of : Command → Entry
-entry_of command = entry_by (word_of command)
+use Rattle.affine_driver.specs.Table.{word_of, name_of, standing_of, options_of}
 
 abbrev pub stage_values : StageOptions → List Value → List Value
 stage_values options more = Number (pos options.depth) ∷ Flag options.dma ∷ Flag options.double ∷ Number (pos options.buffers) ∷ Number (pos options.capacity) ∷ more
@@ -62,23 +34,23 @@ values_of (command.Sample options) = Number (pos options.number) ∷ []
 
 -- The words ask for this command: the program has it, the first word is its name, and the others give its options their values.
 pub record AsksFor (words : List (List ℕ)) (command : Command) : Type 0 where
-  pub built : is_there (entry_of command).standing ≡ true
+  pub built : is_there (standing_of (word_of command)) ≡ true
   pub behind : List (List ℕ)
-  pub begins : words ≡ (entry_of command).name.now ∷ behind
-  pub given : Gives (entry_of command).options.now behind (values_of command)
+  pub begins : words ≡ name_of (word_of command) ∷ behind
+  pub given : Gives (options_of (word_of command)) behind (values_of command)
 
 -- the program has this command, and its options lie in their ranges
 pub record IsAllowed (command : Command) : Type 0 where
-  pub built : is_there (entry_of command).standing ≡ true
-  pub fit : AllFit (entry_of command).options.now (values_of command)
+  pub built : is_there (standing_of (word_of command)) ≡ true
+  pub fit : AllFit (options_of (word_of command)) (values_of command)
 
 -- ---- How the words are read. Nobody has to believe what follows: no clause of the top call speaks of it.
 
 -- the words behind a first word ask for this command
 pub record AsksBehind (first : FirstWord) (words : List (List ℕ)) (command : Command) : Type 0 where
   pub is : word_of command ≡ first
-  pub built : is_there (entry_by first).standing ≡ true
-  pub given : Gives (entry_by first).options.now words (values_of command)
+  pub built : is_there (standing_of first) ≡ true
+  pub given : Gives (options_of first) words (values_of command)
 
 -- the command with this name
 abbrev pub first_word : List ℕ → Option FirstWord

@@ -1,12 +1,17 @@
 // What the words ask for.
 ghost use Rattle.std.specs.Prelude.{◌≡◌, ◌↔◌, Some, IfOk, map, true};
-ghost use Rattle.command_words.specs.Options.{is_there, is_table, Gives};
-ghost use Rattle.command_words.specs.declared.options.Value.{Value};
+ghost use Rattle.command_words.specs.Options.{is_there, rules_of};
 ghost use Rattle.affine_driver.specs.declared.command.Command.{Command};
 ghost use Rattle.affine_driver.specs.Command as spec;
+ghost use Rattle.affine_driver.specs.Table as table;
 
-use crate::table::{BOTH, CHECK, Entry, ORDER, PLAIN, REGIONS, RUN, SAMPLE, STAGE};
-use command_words::{Standing, Value, byte_at, flag_at, integer_at, natural_at, read_words};
+use crate::table::{
+    BOTH, BOTH_OPTIONS, CHECK, ORDER, ORDER_OPTIONS, PLAIN, REGIONS, REGIONS_OPTIONS, RUN,
+    RUN_OPTIONS, SAMPLE, SAMPLE_OPTIONS, STAGE, STAGE_OPTIONS,
+};
+use command_words::{
+    CommandOption, Standing, Value, byte_at, flag_at, integer_at, natural_at, read_words,
+};
 use std::alloc::{AllocError, Global};
 
 /// The options of `regions`.
@@ -124,11 +129,11 @@ fn run_options(values: &[Value]) -> RunOptions
 }
 
 impl FirstWord {
-    /// The command's entry in the table.
-    fn entry(self) -> Entry<'static>
-        ensures { result ≡ spec.entry_by self }
+    /// Whether the program has the command.
+    fn is_built(self) -> bool
+        ensures { result ≡ is_there (table.standing_of self) }
     {
-        match self {
+        let standing = match self {
             FirstWord::Check => CHECK,
             FirstWord::Regions => REGIONS,
             FirstWord::Stage => STAGE,
@@ -137,6 +142,36 @@ impl FirstWord {
             FirstWord::Order => ORDER,
             FirstWord::Both => BOTH,
             FirstWord::Sample => SAMPLE,
+        };
+        matches!(standing, Standing::Built)
+    }
+
+    fn name(self) -> &'static str
+        ensures { result.now ≡ table.name_of self }
+    {
+        match self {
+            FirstWord::Check => "check",
+            FirstWord::Regions => "regions",
+            FirstWord::Stage => "stage",
+            FirstWord::Plain => "plain",
+            FirstWord::Run => "run",
+            FirstWord::Order => "order",
+            FirstWord::Both => "both",
+            FirstWord::Sample => "sample",
+        }
+    }
+
+    fn options(self) -> &'static [CommandOption<'static>]
+        ensures { rules_of result.now ≡ table.options_of self }
+    {
+        match self {
+            FirstWord::Check | FirstWord::Plain => &[],
+            FirstWord::Regions => &REGIONS_OPTIONS,
+            FirstWord::Stage => &STAGE_OPTIONS,
+            FirstWord::Run => &RUN_OPTIONS,
+            FirstWord::Order => &ORDER_OPTIONS,
+            FirstWord::Both => &BOTH_OPTIONS,
+            FirstWord::Sample => &SAMPLE_OPTIONS,
         }
     }
 
@@ -201,11 +236,10 @@ fn command_behind<'a>(
 ) -> Result<Option<Command>, AllocError>
     ensures { IfOk result (λ found. (command : Command) → (found ≡ Some command) ↔ spec.AsksBehind first (map (λ word. word.now) words.entry.now) command) }
 {
-    let entry = first.entry();
-    if !matches!(entry.standing, Standing::Built) {
+    if !first.is_built() {
         return Ok(None);
     }
-    match read_words(alloc, entry.name, entry.options, words)? {
+    match read_words(alloc, first.name(), first.options(), words)? {
         Some(values) => Ok(Some(first.command(values.as_slice()))),
         None => Ok(None),
     }
