@@ -1,5 +1,5 @@
 -- The table of a module's names: each name once, in the order of first use. A name's number is its place in it.
-use Rattle.std.specs.Prelude.{◌≡◌, ℕ, ◌<◌, false, List, [], ◌∷◌, ◌++◌, length, map, fold, Option, Some, None, slice_index_or, if◌then◌else◌}
+use Rattle.std.specs.Prelude.{◌≡◌, ℕ, ◌<◌, false, List, [], ◌∷◌, ◌++◌, length, map, fold, slice_index_or, if◌then◌else◌}
 use Rattle.std.specs.List.{list_any}
 use Rattle.affine_ast.specs.declared.module.Arg.{Arg}
 use Rattle.affine_ast.specs.declared.module.Module.{Module}
@@ -7,7 +7,9 @@ use Rattle.affine_ast.specs.declared.name.Name.{Name}
 use Rattle.affine_ast.specs.declared.types.Bound.{Bound}
 use Rattle.affine_ast.specs.declared.types.Bound.TheVariants as bound
 use Rattle.affine_ast.specs.Names.{same_name}
-use Rattle.affine_ast.specs.Nest.{Plain, Nest, Nothing, Loop, Branch, Does, Value, Load, Store, RawLoad, RawStore, Constant, Binary, Cast, Alloc, Dealloc, Start, Wait, Return, nest}
+use Rattle.affine_ast.specs.Rules.{stride_names}
+use Rattle.affine_ast.specs.Nest.{Plain, Nest, Nothing, Loop, Branch, Does, Value, Load, Store, RawLoad, RawStore}
+use Rattle.affine_ast.specs.Nest.{Constant, Binary, Cast, Alloc, Dealloc, Start, Wait, Return, nest}
 
 -- the name of a number
 abbrev pub name_at : List Name → ℕ → Name
@@ -30,10 +32,6 @@ uses_in_bound (bound.Int z) = []
 uses_in_bound (bound.Value n) = n ∷ []
 uses_in_bound (bound.Map at) = at.operands
 
-abbrev pub uses_in_stride : Option (Name × Name) → List Name
-uses_in_stride None = []
-uses_in_stride (Some two) = two.0 ∷ two.1 ∷ []
-
 -- the names in a plain statement, in the order of its parts
 abbrev pub uses_in_plain : Plain → List Name
 uses_in_plain (Value r pick at) = r ∷ at.operands
@@ -46,7 +44,8 @@ uses_in_plain (Binary r op a b ty) = r ∷ a ∷ b ∷ []
 uses_in_plain (Cast r kind x from to) = r ∷ x ∷ []
 uses_in_plain (Alloc r ty) = r ∷ []
 uses_in_plain (Dealloc m ty) = m ∷ []
-uses_in_plain (Start a a_at b b_at t t_at n stride types) = a ∷ a_at.operands ++ (b ∷ b_at.operands ++ (t ∷ t_at.operands ++ (n ∷ uses_in_stride stride)))
+uses_in_plain (Start a a_at b b_at t t_at n stride types) =
+    a ∷ a_at.operands ++ (b ∷ b_at.operands ++ (t ∷ t_at.operands ++ (n ∷ stride_names stride)))
 uses_in_plain (Wait t at n ty) = t ∷ at.operands ++ (n ∷ [])
 uses_in_plain Return = []
 

@@ -1,12 +1,15 @@
 // The table of names while a module is numbered.
 ghost use Rattle.std.specs.Prelude.{◌≡◌, ℕ, max, [], ◌∷◌, length, IfOk, OnOk};
-ghost use Rattle.walk_program.specs.Numbering.{Table, Numbers, IsNumber, AreNumbers, AreOperands, IsSubscripts, IsLimit, IsStride, names_of_keys};
-ghost use Rattle.walk_program.specs.Names.{uses_in_bound, uses_in_stride};
+ghost use Rattle.walk_program.specs.Numbering.{Table, Numbers, IsNumber, AreNumbers, AreOperands, IsSubscripts};
+ghost use Rattle.walk_program.specs.Numbering.{IsLimit, IsStride, names_of_keys};
+ghost use Rattle.affine_ast.specs.Rules.{stride_names};
+ghost use Rattle.walk_program.specs.Names.{uses_in_bound};
 ghost use Rattle.walk_program.specs.Widths.{width_in_bound};
 
 use crate::plain::{Limit, Subscripts};
 use affine_ast::{Access, Bound, Name, Text};
 use indexmap::IndexSet;
+use name_hash::NameHashing;
 use sqlite_items::Items;
 use std::alloc::{AllocError, Global};
 use std::marker::Model;
@@ -21,7 +24,7 @@ pub(crate) struct Key<'a> {
 /// The names so far, each once, in the order of first use, and how many operands the longest list of them so far has.
 #[derive(Drop)]
 pub(crate) struct Numbering<'a> {
-    keys: IndexSet<Key<'a>>,
+    keys: IndexSet<Key<'a>, NameHashing>,
     longest: u32,
 }
 
@@ -67,12 +70,12 @@ fn copy_name(alloc: Global, key: Key<'_>) -> Result<Name, AllocError>
 
 impl<'a> Numbering<'a> {
     /// A table without names.
-    pub(crate) fn new(alloc: Global) -> Numbering<'a>
+    pub(crate) fn new(alloc: Global, hashing: NameHashing) -> Numbering<'a>
         ensures names { result.names ≡ [] }
         ensures width { result.width ≡ 0 }
     {
         Numbering {
-            keys: IndexSet::new(alloc),
+            keys: IndexSet::with_hasher(alloc, hashing),
             longest: 0,
         }
     }
@@ -129,7 +132,8 @@ impl<'a> Numbering<'a> {
         alloc: Global,
         names: &'a [Name],
     ) -> Result<Items<u32>, AllocError>
-        ensures { IfOk result (λ ks. Numbers (AreOperands ks names.now) names.now (length names.now) self.old self.new) }
+        ensures { IfOk result (λ ks. Numbers (AreOperands ks names.now) names.now
+            (length names.now) self.old self.new) }
     {
         let numbers = self.listed(alloc, names)?;
         self.widen(numbers.len())?;
@@ -142,7 +146,8 @@ impl<'a> Numbering<'a> {
         alloc: Global,
         at: &'a Access,
     ) -> Result<Subscripts, AllocError>
-        ensures { IfOk result (λ s. Numbers (IsSubscripts s at.now) at.now.operands (length at.now.operands) self.old self.new) }
+        ensures { IfOk result (λ s. Numbers (IsSubscripts s at.now) at.now.operands
+            (length at.now.operands) self.old self.new) }
     {
         Ok(Subscripts {
             map: at.map.copy(alloc)?,
@@ -152,7 +157,8 @@ impl<'a> Numbering<'a> {
 
     /// A bound with numbers.
     pub(crate) fn limit(&mut self, alloc: Global, bound: &'a Bound) -> Result<Limit, AllocError>
-        ensures { IfOk result (λ l. Numbers (IsLimit l bound.now) (uses_in_bound bound.now) (width_in_bound bound.now) self.old self.new) }
+        ensures { IfOk result (λ l. Numbers (IsLimit l bound.now) (uses_in_bound bound.now)
+            (width_in_bound bound.now) self.old self.new) }
     {
         match bound {
             Bound::Int(value) => Ok(Limit::Int(*value)),
@@ -166,7 +172,7 @@ impl<'a> Numbering<'a> {
         &mut self,
         stride: &'a Option<(Name, Name)>,
     ) -> Result<Option<(u32, u32)>, AllocError>
-        ensures { IfOk result (λ two. Numbers (IsStride two stride.now) (uses_in_stride stride.now) 0 self.old self.new) }
+        ensures { IfOk result (λ two. Numbers (IsStride two stride.now) (stride_names stride.now) 0 self.old self.new) }
     {
         match stride {
             None => Ok(None),
