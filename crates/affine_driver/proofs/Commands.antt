@@ -247,18 +247,22 @@ forth first.Order values fit =
     let s = run_fit (negsuc 9223372036854775807) (pos 9223372036854775807) (alone (codes "capacity") CAPACITY ORDER_CAPACITY) (alone (codes "filler") FILLER ORDER_FILLER) (alone (codes "engines") ENGINES ORDER_ENGINES) ((alone (codes "pick") PICK ORDER_PICK) ∷ []) values refl refl refl fit in
     let p = first_number (pos 0) (pos 9223372036854775807) (pos 0) (alone (codes "pick") PICK ORDER_PICK) [] s.rest refl s.after in
     let whole = s.is ∙ ap (λ l. value.Number s.capacity ∷ value.Number s.filler ∷ value.Number s.engines ∷ l) (p.is ∙ ap (λ l. value.Number p.number ∷ l) (none_left p.rest p.more)) in
-    subst (Told first.Order) (sym whole)
-    (refl, run_same s.capacity s.filler s.engines (value.Number (pos (natural_of p.number)) ∷ []) s.capacity_fits s.engines_fit
-    ∙ ap (λ x. value.Number s.capacity ∷ value.Number s.filler ∷ value.Number s.engines ∷ value.Number x ∷ []) (natural 0 9223372036854775807 p.number p.between))
+    subst (Told first.Order) (sym whole) (
+      refl,
+      run_same s.capacity s.filler s.engines (value.Number (pos (natural_of p.number)) ∷ []) s.capacity_fits s.engines_fit
+          ∙ ap (λ x. value.Number s.capacity ∷ value.Number s.filler ∷ value.Number s.engines ∷ value.Number x ∷ []) (natural 0 9223372036854775807 p.number p.between),
+    )
 forth first.Both values fit =
     let s = stage_fit (alone (codes "depth") DEPTH BOTH_DEPTH) (alone (codes "dma") takes.Flag BOTH_DMA) (behind (codes "dma") (codes "double") takes.Flag BOTH_DOUBLE) (behind (codes "double") (codes "buffers") BUFFERS BOTH_BUFFERS) (alone (codes "capacity") CAPACITY BOTH_CAPACITY) ((alone (codes "filler") FILLER BOTH_FILLER) ∷ (alone (codes "engines") ENGINES BOTH_ENGINES) ∷ []) values refl refl refl refl refl fit in
     let f = first_number (negsuc 9223372036854775807) (pos 9223372036854775807) (pos 0) (alone (codes "filler") FILLER BOTH_FILLER) ((alone (codes "engines") ENGINES BOTH_ENGINES) ∷ []) s.rest refl s.after in
     let e = first_number (pos 1) (pos 16) (pos 2) (alone (codes "engines") ENGINES BOTH_ENGINES) [] f.rest refl f.more in
     let whole = s.is ∙ ap (λ l. value.Number s.depth ∷ value.Flag s.dma ∷ value.Flag s.double ∷ value.Number s.buffers ∷ value.Number s.capacity ∷ l)
-        (f.is ∙ ap (λ l. value.Number f.number ∷ l) (e.is ∙ ap (λ l. value.Number e.number ∷ l) (none_left e.rest e.more))) in
-    subst (Told first.Both) (sym whole)
-    (refl, stage_same s.depth s.buffers s.capacity s.dma s.double (value.Number f.number ∷ value.Number (pos (byte_of (natural_of e.number))) ∷ []) s.depth_fits s.buffers_fit s.capacity_fits
-    ∙ ap (λ x. value.Number s.depth ∷ value.Flag s.dma ∷ value.Flag s.double ∷ value.Number s.buffers ∷ value.Number s.capacity ∷ value.Number f.number ∷ value.Number x ∷ []) (byte_value 1 16 e.number (lit< tt) e.between))
+    (f.is ∙ ap (λ l. value.Number f.number ∷ l) (e.is ∙ ap (λ l. value.Number e.number ∷ l) (none_left e.rest e.more))) in
+    subst (Told first.Both) (sym whole) (
+      refl,
+      stage_same s.depth s.buffers s.capacity s.dma s.double (value.Number f.number ∷ value.Number (pos (byte_of (natural_of e.number))) ∷ []) s.depth_fits s.buffers_fit s.capacity_fits
+          ∙ ap (λ x. value.Number s.depth ∷ value.Flag s.dma ∷ value.Flag s.double ∷ value.Number s.buffers ∷ value.Number s.capacity ∷ value.Number f.number ∷ value.Number x ∷ []) (byte_value 1 16 e.number (lit< tt) e.between),
+    )
 
 -- telling options that fit and reading them again gives them
 back : (c : Command) → Back c
