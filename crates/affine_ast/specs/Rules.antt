@@ -23,21 +23,17 @@ use Rattle.affine_ast.specs.declared.types.Pick.TheVariants.{Apply, Min, Max}
 use Rattle.affine_ast.specs.declared.types.Scalar.{Scalar}
 use Rattle.affine_ast.specs.declared.types.Scalar.TheVariants.{Int, Index}
 use Rattle.affine_ast.specs.Names.{same_name}
-use Rattle.affine_ast.specs.Nest.{Plain, Nest, Nothing, Loop, Branch, Does, Value, Load, Store, RawLoad, RawStore, Constant, Binary, Cast, Alloc, Dealloc, Start, Wait, Return}
+use Rattle.affine_ast.specs.Nest.{Plain, Nest, Nothing, Loop, Branch, Does, Value, Load, Store, RawLoad, RawStore, Constant, Binary, Cast, Alloc, Dealloc, Start, Wait}
+use Rattle.affine_ast.specs.Parts.{every, result_of, stride_names, uses_of, maps_of}
 use Rattle.affine_ast.specs.Scope.{Binding, Variable, Symbol, IndexConstant, Data, MemrefArgument, Allocation, Scope, ranges_in, Totals, Around}
 use Rattle.affine_ast.specs.Sizes.{element_bits, scalar_bits}
-
--- the stride and the chunk of a transfer, where it has them
-abbrev pub stride_names : Option (Name × Name) → List Name
-stride_names None = []
-stride_names (Some two) = two.0 ∷ two.1 ∷ []
 
 -- ---- V1: every value used is in scope
 
 unfoldable pub is_in : Scope → Name → Bool
 is_in s n = is_some (s n)
 
-unfoldable pub are_in : Scope → List Name → Bool
+abbrev pub are_in : Scope → List Name → Bool
 are_in s = list_all (is_in s)
 
 -- a memref with its subscripts
@@ -50,35 +46,19 @@ bound_in s (bound.Value n) = is_in s n
 bound_in s (bound.Map at) = are_in s at.operands
 
 abbrev pub uses_in_scope : Scope → Plain → Bool
-uses_in_scope s (Value r pick at) = are_in s at.operands
-uses_in_scope s (Load r m at ty) = place_in s m at
-uses_in_scope s (Store x m at ty) = is_in s x && place_in s m at
-uses_in_scope s (RawLoad r m at ty) = is_in s m && are_in s at
-uses_in_scope s (RawStore x m at ty) = is_in s x && (is_in s m && are_in s at)
-uses_in_scope s (Constant r z ty) = true
-uses_in_scope s (Binary r op x y ty) = is_in s x && is_in s y
-uses_in_scope s (Cast r kind x from to) = is_in s x
-uses_in_scope s (Alloc r ty) = true
-uses_in_scope s (Dealloc m ty) = is_in s m
-uses_in_scope s (Start x x_at y y_at t t_at n stride types) =
-    place_in s x x_at && (place_in s y y_at && (place_in s t t_at && (is_in s n && are_in s (stride_names stride))))
-uses_in_scope s (Wait t at n ty) = place_in s t at && is_in s n
-uses_in_scope s Return = true
+uses_in_scope s p = are_in s (uses_of p)
 
 -- ---- V2: a value defined isn't in scope already
 
 abbrev pub is_new : Scope → Name → Bool
 is_new s n = not (is_in s n)
 
+abbrev pub is_new_result : Scope → Option Name → Bool
+is_new_result s None = true
+is_new_result s (Some r) = is_new s r
+
 abbrev pub defines_new : Scope → Plain → Bool
-defines_new s (Value r pick at) = is_new s r
-defines_new s (Load r m at ty) = is_new s r
-defines_new s (RawLoad r m at ty) = is_new s r
-defines_new s (Constant r z ty) = is_new s r
-defines_new s (Binary r op x y ty) = is_new s r
-defines_new s (Cast r kind x from to) = is_new s r
-defines_new s (Alloc r ty) = is_new s r
-defines_new s p = true
+defines_new s p = is_new_result s (result_of p)
 
 -- ---- V4: a dimension is a loop variable, an index argument, an index constant, or a result of `affine.apply`, `min`, `max`;
 -- a symbol is an index argument or index constant; a memref stands only where a memref is asked for
@@ -270,12 +250,7 @@ abbrev pub step_positive : ℤ → Bool
 step_positive step = int_lt (pos 0) step
 
 abbrev pub maps_pure : Plain → Bool
-maps_pure (Value r pick at) = access_pure at
-maps_pure (Load r m at ty) = access_pure at
-maps_pure (Store x m at ty) = access_pure at
-maps_pure (Start x x_at y y_at t t_at n stride types) = access_pure x_at && (access_pure y_at && access_pure t_at)
-maps_pure (Wait t at n ty) = access_pure at
-maps_pure p = true
+maps_pure p = every access_pure (maps_of p)
 
 -- ---- V9: every affine subexpression, integer bound, `copy.range` and constant dimension has an interval within -2^62 to 2^62
 
@@ -313,12 +288,7 @@ bound_bounded s (bound.Value n) = is_small_dimension s n
 bound_bounded s (bound.Map at) = access_bounded s at
 
 abbrev pub maps_bounded : Scope → Plain → Bool
-maps_bounded s (Value r pick at) = access_bounded s at
-maps_bounded s (Load r m at ty) = access_bounded s at
-maps_bounded s (Store x m at ty) = access_bounded s at
-maps_bounded s (Start x x_at y y_at t t_at n stride types) = access_bounded s x_at && (access_bounded s y_at && access_bounded s t_at)
-maps_bounded s (Wait t at n ty) = access_bounded s at
-maps_bounded s p = true
+maps_bounded s p = every (access_bounded s) (maps_of p)
 
 -- ---- V10: arguments are in space 0, allocations in 1 or 2, tags hold `i32` in space 2; loads and stores use space 0 or 1; a
 -- transfer goes between spaces 0 and 1, its tag is in 2; count, stride and chunk are index constants, count >= 1,

@@ -19,7 +19,8 @@ use Rattle.walk_program.specs.declared.plain.Limit.TheVariants as limit
 use Rattle.walk_program.specs.declared.plain.Plain.TheVariants as plain
 use Rattle.walk_program.specs.declared.plain.Subscripts.{Subscripts}
 use Rattle.walk_program.specs.declared.plain.Limit.{Limit}
-use Rattle.walk_program.specs.Names.{name_at, uses_in_bound, uses_in_stride}
+use Rattle.walk_program.specs.Names.{name_at, uses_in_bound}
+use Rattle.affine_ast.specs.Parts.{stride_names}
 use Rattle.walk_program.specs.Widths.{width_in_bound}
 use Rattle.walk_program.specs.Numbering.{Table, Grows, Numbers, IsNumber, AreNumbers, AreOperands, IsSubscripts, IsLimit, IsStride, IsPlain, NumbersPlain}
 use Rattle.walk_program.specs.Reading.{plain_of}
@@ -75,8 +76,8 @@ module _ {a b : Table} where
   pub limit-Map : (s : Subscripts) (at : Access) → Numbers (IsSubscripts s at) at.operands (length at.operands) a b → Numbers (IsLimit (limit.Map s) (bound.Map at)) at.operands (length at.operands) a b
   limit-Map s at x = becomes x refl refl (λ t p. record { fits = p.fits; reads = ap bound.Map p.reads })
 
-pub stride_arm : (l : Option (ℕ × ℕ)) (x y : Option (Name × Name)) (a b : Table) → x ≡ y → Numbers (IsStride l y) (uses_in_stride y) 0 a b → Numbers (IsStride l x) (uses_in_stride x) 0 a b
-stride_arm l x y a b e = subst (λ z. Numbers (IsStride l z) (uses_in_stride z) 0 a b) (sym e)
+pub stride_arm : (l : Option (ℕ × ℕ)) (x y : Option (Name × Name)) (a b : Table) → x ≡ y → Numbers (IsStride l y) (stride_names y) 0 a b → Numbers (IsStride l x) (stride_names x) 0 a b
+stride_arm l x y a b e = subst (λ z. Numbers (IsStride l z) (stride_names z) 0 a b) (sym e)
 
 pub stride-None : (a : Table) → Numbers (IsStride None None) [] 0 a a
 stride-None a = nothing a (λ t. record { fits = tt; reads = refl })

@@ -1,7 +1,8 @@
 // The table of names while a module is numbered.
 ghost use Rattle.std.specs.Prelude.{◌≡◌, ℕ, max, [], ◌∷◌, length, IfOk, OnOk};
 ghost use Rattle.walk_program.specs.Numbering.{Table, Numbers, IsNumber, AreNumbers, AreOperands, IsSubscripts, IsLimit, IsStride, names_of_keys};
-ghost use Rattle.walk_program.specs.Names.{uses_in_bound, uses_in_stride};
+ghost use Rattle.walk_program.specs.Names.{uses_in_bound};
+ghost use Rattle.affine_ast.specs.Parts.{stride_names};
 ghost use Rattle.walk_program.specs.Widths.{width_in_bound};
 
 use crate::plain::{Limit, Subscripts};
@@ -166,7 +167,7 @@ impl<'a> Numbering<'a> {
         &mut self,
         stride: &'a Option<(Name, Name)>,
     ) -> Result<Option<(u32, u32)>, AllocError>
-        ensures { IfOk result (λ two. Numbers (IsStride two stride.now) (uses_in_stride stride.now) 0 self.old self.new) }
+        ensures { IfOk result (λ two. Numbers (IsStride two stride.now) (stride_names stride.now) 0 self.old self.new) }
     {
         match stride {
             None => Ok(None),
