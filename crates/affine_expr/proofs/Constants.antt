@@ -1,14 +1,15 @@
 -- The known value that is found with a form is the known value.
-use Rattle.std.proofs.Common.{◌≡◌, ℕ, ℤ, Option, refl, ap, subst, ◌∙◌}
+use Rattle.std.proofs.Common.{◌≡◌, ℕ, ℤ, List, Option, refl, ap, subst, ◌∙◌}
 use Rattle.std.specs.Prelude.{◌+ℤ◌, ◌-ℤ◌, ◌*ℤ◌, neg_ℤ}
 use Rattle.affine_expr.specs.declared.expr.Expr.{Expr, fold-roll-Expr, ind-Expr, map-Expr, roll-Expr}
 use Rattle.affine_expr.specs.declared.expr.Expr.TheOpen.{Expr-F}
 use Rattle.affine_expr.specs.Value.{floor_div, ceil_div, floor_mod}
+use Rattle.affine_expr.specs.Forms.{Form}
 use Rattle.affine_expr.specs.Linear.{known_one, known_two, divisor, known_value, part_of}
 
-module _ (dims syms : ℕ) where
+module _ (width : ℕ) (ds ss : List Form) where
   abbrev pub Same : Expr → Type 0
-  Same e = (part_of dims syms e).known ≡ known_value e
+  Same e = (part_of width ds ss e).known ≡ known_value e
 
   both : (f : Option ℤ → Option ℤ → Option ℤ) (x y u v : Option ℤ) → x ≡ u → y ≡ v → f x y ≡ f u v
   both f x y u v h k = ap (λ t. f t y) h ∙ ap (f u) k

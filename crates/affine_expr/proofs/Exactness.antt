@@ -1,7 +1,7 @@
 -- Of a pure expression whose numbers are small, each value that is asked for is known: what is found is the linear form.
 use Rattle.std.proofs.Common.{◌≡◌, ℕ, true, ℤ, pos, neg_ℤ, ◌+ℤ◌, ◌-ℤ◌, ◌*ℤ◌, cond, List, [], Option, Some, None, Result, refl, ap, subst, ◌∙◌}
 use Rattle.std.proofs.lemmas.Bool.{and_parts, not-true}
-use Rattle.affine_expr.specs.declared.expr.Expr.{Expr, fold-roll-Expr, ind-Expr, map-Expr, roll-Expr}
+use Rattle.affine_expr.specs.declared.expr.Expr.{Expr, fold-Expr, fold-roll-Expr, ind-Expr, map-Expr, roll-Expr}
 use Rattle.affine_expr.specs.declared.expr.Expr.TheOpen.{Expr-F}
 use Rattle.affine_expr.specs.declared.linear.LinearFault.{LinearFault}
 use Rattle.affine_expr.specs.declared.linear.Join.TheVariants.{Sum, Difference}
@@ -9,8 +9,8 @@ use Rattle.affine_expr.specs.Value.{floor_div, ceil_div, floor_mod}
 use Rattle.affine_expr.specs.Spread.{both_fixed, one_fixed}
 use Rattle.affine_expr.specs.Pure.{is_outside, is_small, is_positive, purity, is_pure, has_small_numbers}
 use Rattle.affine_expr.specs.Guarded.{small}
-use Rattle.affine_expr.specs.Forms.{LocalForm}
-use Rattle.affine_expr.specs.Linear.{known_one, known_two, divisor, State, Part, part_of, exact_part, joined_by, scaled_by, product_by, floor_by, ceil_by, rest_by, finished, linear_of, linear_found}
+use Rattle.affine_expr.specs.Forms.{Form, LocalForm}
+use Rattle.affine_expr.specs.Linear.{known_one, known_two, divisor, State, Part, part_of, over_step, over, formed, joined_by, scaled_by, product_by, floor_by, ceil_by, rest_by}
 use Rattle.affine_expr.proofs.Limits.{small_is}
 
 small_at : (z : ℤ) → is_small (Some z) ≡ true → small z ≡ Some z
@@ -55,20 +55,20 @@ both_exact o form x y X Y f g h k s = record {
 
 -- a division, whose divisor is positive
 divided_exact : (o : ℤ → ℤ → ℤ) (form : Part → Option ℤ → List LocalForm → Result State LinearFault) (x y X Y : Part) (f g : Option ℤ) → IsExact x X f → IsExact y Y g → is_positive g ≡ true → is_small (both_fixed o f g) ≡ true
-    → IsExact (part_at (form x (divisor y.known)) (known_two o x.known (divisor y.known))) (part_at (form X Y.known) (both_fixed o X.known Y.known)) (both_fixed o f g)
+    → IsExact (part_at (form x (divisor y.known)) (known_two o x.known (divisor y.known))) (part_at (form X (divisor Y.known)) (both_fixed o X.known Y.known)) (both_fixed o f g)
 divided_exact o form x y X Y f g h k p s = record {
   same = two_parts (λ a b. part_at (form a (divisor b.known)) (known_two o a.known (divisor b.known))) x y X Y _ h.same k.same
-      (ap (λ d. part_at (form X d) (known_two o X.known d)) (divisor_same Y.known (ap is_positive k.known ∙ p))
-      ∙ ap (part_at (form X Y.known)) (two_small o X.known Y.known (ap is_small (both_same o X.known Y.known f g h.known k.known) ∙ s)));
+      (ap (λ d. part_at (form X (divisor Y.known)) (known_two o X.known d)) (divisor_same Y.known (ap is_positive k.known ∙ p))
+      ∙ ap (part_at (form X (divisor Y.known))) (two_small o X.known Y.known (ap is_small (both_same o X.known Y.known f g h.known k.known) ∙ s)));
   known = both_same o X.known Y.known f g h.known k.known;
 }
 
-module _ (dims syms : ℕ) where
+module _ (width : ℕ) (ds ss : List Form) where
   abbrev found : Expr → Part
-  found = part_of dims syms
+  found = part_of width ds ss
 
   abbrev exact : Expr → Part
-  exact = exact_part dims syms
+  exact = fold-Expr Part (over_step width ds ss)
 
   abbrev pub Agree : Expr → Type 0
   Agree e = (purity e).pure ≡ true → (purity e).small ≡ true → IsExact (found e) (exact e) (purity e).fixed
@@ -123,6 +123,7 @@ module _ (dims syms : ℕ) where
   agree : (e : Expr) → Agree e
   agree = ind-Expr Agree (λ x y is. subst (λ z. Agree (roll-Expr z)) is (one_layer y))
 
-  pub linear_exact : (e : Expr) → is_pure e ≡ true → has_small_numbers e ≡ true → linear_found dims syms e ≡ linear_of dims syms e
-  unfolding is_pure has_small_numbers linear_found linear_of
-  linear_exact e p s = ap (λ (x : Part). finished (x.form [])) (agree e p s).same
+  -- the form that is found of an expression is its form
+  pub found_exact : (e : Expr) → is_pure e ≡ true → has_small_numbers e ≡ true → formed width ds ss e ≡ (over width ds ss e).form
+  unfolding is_pure has_small_numbers over
+  found_exact e p s = ap (λ (x : Part). x.form) (agree e p s).same

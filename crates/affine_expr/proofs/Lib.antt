@@ -14,5 +14,7 @@ pub mod Units
 pub mod FormValues
 pub mod Locals
 pub mod Meaning
+pub mod Overs
+pub mod Variables
 pub mod Exactness
 pub mod Bounds

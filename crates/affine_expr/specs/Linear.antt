@@ -1,5 +1,5 @@
 -- The linear form of an affine expression: over the dimensions, then the symbols, then the locals of its divisions.
-use Rattle.std.specs.Prelude.{◌≡◌, ℕ, ◌+◌, ℤ, pos, neg_ℤ, ◌+ℤ◌, ◌-ℤ◌, ◌*ℤ◌, int_lt, if◌then◌else◌, List, [], ◌∷◌, ◌++◌, length, slice_set, replicate, Option, Some, None, Result, Ok, Err}
+use Rattle.std.specs.Prelude.{◌≡◌, ℕ, zero, suc, ◌+◌, ◌-◌, ℤ, pos, neg_ℤ, ◌+ℤ◌, ◌-ℤ◌, ◌*ℤ◌, int_lt, if◌then◌else◌, List, [], ◌∷◌, ◌++◌, length, slice_get, slice_set, replicate, Option, Some, None, Result, Ok, Err}
 use Rattle.num_row.specs.Ints.{narrowed}
 use Rattle.affine_expr.specs.declared.expr.Expr.{Expr, fold-Expr}
 use Rattle.affine_expr.specs.declared.expr.Expr.TheOpen.{Expr-F}
@@ -104,6 +104,23 @@ number_form width z = record { coefs = replicate width (pos 0); constant = z }
 unfoldable pub variable_form : ℕ → ℕ → Form
 variable_form width place = record { coefs = slice_set (replicate width (pos 0)) place (pos 1); constant = pos 0 }
 
+-- the forms of so many variables, from the one at a place on
+abbrev pub variable_forms : ℕ → ℕ → ℕ → List Form
+variable_forms width place zero = []
+variable_forms width place (suc count) = variable_form width place ∷ variable_forms width (suc place) count
+
+-- a form over at least so many variables
+unfoldable pub padded : ℕ → Form → Form
+padded n f = record { coefs = f.coefs ++ replicate (n - length f.coefs) (pos 0); constant = f.constant }
+
+-- the sum or the difference of two forms over whichever variables, whose own numbers are tested
+abbrev pub combined : Join → Form → Form → Result Form LinearFault
+combined way f g = join_forms way f (padded (length f.coefs) g)
+
+-- f - g
+unfoldable pub minus : Form → Form → Result Form LinearFault
+minus f g = combined Difference f g
+
 -- a form, and the locals that stand after it
 pub record State : Type 0 where
   pub form : Form
@@ -145,7 +162,7 @@ abbrev pub joined_by : Join → Part → Part → List LocalForm → Result Stat
 joined_by way a b ls = do
   f ← a.form ls
   g ← b.form f.locals
-  h ← join_forms way f.form g.form
+  h ← combined way f.form g.form
   Ok (state h g.locals)
 
 abbrev pub scaled_by : ℤ → Part → List LocalForm → Result State LinearFault
@@ -181,54 +198,58 @@ rest_by a (Some c) ls = do
   f ← a.form ls
   Ok (rest_form f.form c f.locals)
 
-abbrev pub exact_step : ℕ → ℕ → Expr-F Part → Part
-exact_step dims syms (Expr-F.Dim n) = record { known = None; form = λ ls. Ok (state (variable_form (dims + syms + length ls) n) ls) }
-exact_step dims syms (Expr-F.Sym n) = record { known = None; form = λ ls. Ok (state (variable_form (dims + syms + length ls) (dims + n)) ls) }
-exact_step dims syms (Expr-F.Const z) = record { known = Some z; form = λ ls. Ok (state (number_form (dims + syms + length ls) z) ls) }
-exact_step dims syms (Expr-F.Neg a) = record { known = one_fixed neg_ℤ a.known; form = scaled_by (neg_ℤ (pos 1)) a }
-exact_step dims syms (Expr-F.Add a b) = record { known = both_fixed (λ x y. x +ℤ y) a.known b.known; form = joined_by Sum a b }
-exact_step dims syms (Expr-F.Sub a b) = record { known = both_fixed (λ x y. x -ℤ y) a.known b.known; form = joined_by Difference a b }
-exact_step dims syms (Expr-F.Mul a b) = record { known = both_fixed (λ x y. x *ℤ y) a.known b.known; form = product_by a b a.known b.known }
-exact_step dims syms (Expr-F.FloorDiv a b) = record { known = both_fixed floor_div a.known b.known; form = floor_by a b.known }
-exact_step dims syms (Expr-F.CeilDiv a b) = record { known = both_fixed ceil_div a.known b.known; form = ceil_by a b.known }
-exact_step dims syms (Expr-F.Mod a b) = record { known = both_fixed floor_mod a.known b.known; form = rest_by a b.known }
+-- a dimension's or symbol's form, behind the locals so far. Where there is none, nothing is formed
+abbrev pub leaf : ℕ → Option Form → List LocalForm → Result State LinearFault
+leaf width None ls = Err Wide
+leaf width (Some f) ls = Ok (state (padded (width + length ls) f) ls)
 
-abbrev pub exact_part : ℕ → ℕ → Expr → Part
-exact_part dims syms = fold-Expr Part (exact_step dims syms)
+-- one level of an expression whose dimensions and symbols have these forms, over so many variables before its locals. A
+-- divisor that isn't a known positive number is excluded by purity
+abbrev pub over_step : ℕ → List Form → List Form → Expr-F Part → Part
+over_step width ds ss (Expr-F.Dim n) = record { known = None; form = leaf width (slice_get ds n) }
+over_step width ds ss (Expr-F.Sym n) = record { known = None; form = leaf width (slice_get ss n) }
+over_step width ds ss (Expr-F.Const z) = record { known = Some z; form = λ ls. Ok (state (number_form (width + length ls) z) ls) }
+over_step width ds ss (Expr-F.Neg a) = record { known = one_fixed neg_ℤ a.known; form = scaled_by (neg_ℤ (pos 1)) a }
+over_step width ds ss (Expr-F.Add a b) = record { known = both_fixed (λ x y. x +ℤ y) a.known b.known; form = joined_by Sum a b }
+over_step width ds ss (Expr-F.Sub a b) = record { known = both_fixed (λ x y. x -ℤ y) a.known b.known; form = joined_by Difference a b }
+over_step width ds ss (Expr-F.Mul a b) = record { known = both_fixed (λ x y. x *ℤ y) a.known b.known; form = product_by a b a.known b.known }
+over_step width ds ss (Expr-F.FloorDiv a b) = record { known = both_fixed floor_div a.known b.known; form = floor_by a (divisor b.known) }
+over_step width ds ss (Expr-F.CeilDiv a b) = record { known = both_fixed ceil_div a.known b.known; form = ceil_by a (divisor b.known) }
+over_step width ds ss (Expr-F.Mod a b) = record { known = both_fixed floor_mod a.known b.known; form = rest_by a (divisor b.known) }
+
+-- the form of an expression over the forms of its dimensions and symbols
+unfoldable pub over : ℕ → List Form → List Form → Expr → Part
+over width ds ss = fold-Expr Part (over_step width ds ss)
 
 abbrev pub finished : Result State LinearFault → Result LinearForm LinearFault
 finished (Ok st) = Ok (record { coefs = st.form.coefs; constant = st.form.constant; locals = st.locals })
 finished (Err e) = Err e
 
--- the linear form of a pure expression, and `Wide` where a coefficient or constant that is formed, bottom up, isn't in
+-- the linear form of a pure expression over its own dimensions and symbols, and `Wide` where a coefficient or constant that is formed, bottom up, isn't in
 -- 128 bits
 unfoldable pub linear_of : ℕ → ℕ → Expr → Result LinearForm LinearFault
-linear_of dims syms e = finished ((exact_part dims syms e).form [])
+linear_of dims syms e = finished ((over (dims + syms) (variable_forms (dims + syms) 0 dims) (variable_forms (dims + syms) dims syms) e).form [])
 
 -- ---- the same as it is found in numbers of 64 bits: a part counts as known where its value and those of its own parts
 -- are within 2 ^ 62
-abbrev pub part_step : ℕ → ℕ → Expr-F Part → Part
-part_step dims syms (Expr-F.Dim n) = record { known = None; form = λ ls. Ok (state (variable_form (dims + syms + length ls) n) ls) }
-part_step dims syms (Expr-F.Sym n) = record { known = None; form = λ ls. Ok (state (variable_form (dims + syms + length ls) (dims + n)) ls) }
-part_step dims syms (Expr-F.Const z) = record { known = small z; form = λ ls. Ok (state (number_form (dims + syms + length ls) z) ls) }
-part_step dims syms (Expr-F.Neg a) = record { known = known_one neg_ℤ a.known; form = scaled_by (neg_ℤ (pos 1)) a }
-part_step dims syms (Expr-F.Add a b) = record { known = known_two (λ x y. x +ℤ y) a.known b.known; form = joined_by Sum a b }
-part_step dims syms (Expr-F.Sub a b) = record { known = known_two (λ x y. x -ℤ y) a.known b.known; form = joined_by Difference a b }
-part_step dims syms (Expr-F.Mul a b) = record { known = known_two (λ x y. x *ℤ y) a.known b.known; form = product_by a b a.known b.known }
-part_step dims syms (Expr-F.FloorDiv a b) = record { known = known_two floor_div a.known (divisor b.known); form = floor_by a (divisor b.known) }
-part_step dims syms (Expr-F.CeilDiv a b) = record { known = known_two ceil_div a.known (divisor b.known); form = ceil_by a (divisor b.known) }
-part_step dims syms (Expr-F.Mod a b) = record { known = known_two floor_mod a.known (divisor b.known); form = rest_by a (divisor b.known) }
+abbrev pub part_step : ℕ → List Form → List Form → Expr-F Part → Part
+part_step width ds ss (Expr-F.Dim n) = record { known = None; form = leaf width (slice_get ds n) }
+part_step width ds ss (Expr-F.Sym n) = record { known = None; form = leaf width (slice_get ss n) }
+part_step width ds ss (Expr-F.Const z) = record { known = small z; form = λ ls. Ok (state (number_form (width + length ls) z) ls) }
+part_step width ds ss (Expr-F.Neg a) = record { known = known_one neg_ℤ a.known; form = scaled_by (neg_ℤ (pos 1)) a }
+part_step width ds ss (Expr-F.Add a b) = record { known = known_two (λ x y. x +ℤ y) a.known b.known; form = joined_by Sum a b }
+part_step width ds ss (Expr-F.Sub a b) = record { known = known_two (λ x y. x -ℤ y) a.known b.known; form = joined_by Difference a b }
+part_step width ds ss (Expr-F.Mul a b) = record { known = known_two (λ x y. x *ℤ y) a.known b.known; form = product_by a b a.known b.known }
+part_step width ds ss (Expr-F.FloorDiv a b) = record { known = known_two floor_div a.known (divisor b.known); form = floor_by a (divisor b.known) }
+part_step width ds ss (Expr-F.CeilDiv a b) = record { known = known_two ceil_div a.known (divisor b.known); form = ceil_by a (divisor b.known) }
+part_step width ds ss (Expr-F.Mod a b) = record { known = known_two floor_mod a.known (divisor b.known); form = rest_by a (divisor b.known) }
 
-abbrev pub part_of : ℕ → ℕ → Expr → Part
-part_of dims syms = fold-Expr Part (part_step dims syms)
+abbrev pub part_of : ℕ → List Form → List Form → Expr → Part
+part_of width ds ss = fold-Expr Part (part_step width ds ss)
 
--- the form of an expression behind the locals so far
-abbrev pub formed : ℕ → ℕ → Expr → List LocalForm → Result State LinearFault
-formed dims syms e = (part_of dims syms e).form
-
--- the form that is found
-unfoldable pub linear_found : ℕ → ℕ → Expr → Result LinearForm LinearFault
-linear_found dims syms e = finished (formed dims syms e [])
+-- the form that is found of an expression behind the locals so far
+abbrev pub formed : ℕ → List Form → List Form → Expr → List LocalForm → Result State LinearFault
+formed width ds ss e = (part_of width ds ss e).form
 
 -- ---- what code answers: want of memory says nothing
 abbrev pub Meets : {A B : Type 0} → Result A LinearFault → (B → A) → Result B LinearFault → Type 0

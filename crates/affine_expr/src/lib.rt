@@ -15,5 +15,5 @@ mod linear;
 mod map;
 
 pub use expr::Expr;
-pub use linear::{Linear, LinearFault, Local};
+pub use linear::{Combination, Join, Leaves, Linear, LinearFault, Local};
 pub use map::{Constraint, Interval, Map, Rel, Set};

@@ -1,10 +1,10 @@
 // The linear form of an expression.
-ghost use Rattle.std.specs.Prelude.{◌≡◌, ◌+◌, ◌-ℤ◌, ◌<◌, pos, length, slice_index_or, ◌++◌, IfOk, true, List, ℤ};
+ghost use Rattle.std.specs.Prelude.{◌≡◌, ◌+◌, ◌-ℤ◌, ◌<◌, ◌≤◌, pos, length, slice_get, slice_index_or, ◌++◌, IfOk, true, List, ℤ, Ok, ◌^◌};
 ghost use Rattle.num_row.specs.Ints.{narrowed};
 ghost use Rattle.affine_expr.specs.Forms.{Form, IsShaped, linear_value};
 ghost use Rattle.affine_expr.specs.Value.{value};
 ghost use Rattle.affine_expr.specs.Pure.{is_pure, has_leaves_below, has_small_numbers};
-ghost use Rattle.affine_expr.specs.Linear.{Meets, GivesForm, joined, join_coefs, join_forms, scale_coefs, scale_form, number_form, variable_form, raised, floored_form, rest_form, divisor, part_of, formed, linear_found, linear_of};
+ghost use Rattle.affine_expr.specs.Linear.{Meets, GivesForm, joined, join_coefs, join_forms, scale_coefs, scale_form, number_form, variable_form, variable_forms, padded, combined, minus, raised, floored_form, rest_form, leaf, divisor, part_of, over, formed, linear_of};
 
 use crate::Expr;
 use crate::interval::minus;
@@ -77,11 +77,11 @@ impl Model for Linear {
     ghost view = { λ f. record { coefs = f.coefs.items; constant = f.constant; locals = f.locals.items } };
 }
 
-/// A form over the dimensions, the symbols and the locals so far.
+/// A form over the first variables of a space: a coefficient for each, and a constant.
 #[derive(Drop)]
-struct Combination {
-    coefs: Vec<i128>,
-    constant: i128,
+pub struct Combination {
+    pub coefs: Vec<i128>,
+    pub constant: i128,
 }
 
 impl Model for Combination {
@@ -94,7 +94,7 @@ impl Model for Combination {
 
 /// The two ways to join forms.
 #[derive(Clone, Copy)]
-enum Join {
+pub enum Join {
     Sum,
     Difference,
 }
@@ -175,33 +175,6 @@ fn scale_form(alloc: Global, factor: i128, f: &Combination) -> Result<Combinatio
     Ok(Combination { coefs, constant })
 }
 
-/// The variables before the locals: so many dimensions, and then so many symbols.
-#[derive(Clone, Copy)]
-struct Space {
-    dims: u32,
-    syms: u32,
-}
-
-impl Space {
-    fn width(self, locals: &[Local]) -> usize
-        ensures { result ≡ self.dims + self.syms + length locals.now }
-    {
-        self.dims as usize + self.syms as usize + locals.len()
-    }
-
-    fn factor(self, part: &Expr) -> Option<i64>
-        ensures { result ≡ (part_of self.dims self.syms part.now).known }
-    {
-        part.known()
-    }
-
-    fn divisor(self, part: &Expr) -> Option<i64>
-        ensures { result ≡ divisor (part_of self.dims self.syms part.now).known }
-    {
-        positive(self.factor(part))
-    }
-}
-
 #[tactic(auto, unfolding(crate::specs::Linear::number_form))]
 fn number_form(alloc: Global, width: usize, constant: i128) -> Result<Combination, LinearFault>
     ensures { Meets {A = Form} (Ok (number_form width constant)) (λ f. f) result }
@@ -219,6 +192,134 @@ fn variable_form(alloc: Global, width: usize, place: usize) -> Result<Combinatio
         coefs[place] = 1;
     }
     Ok(Combination { coefs, constant: 0 })
+}
+
+/// The form with coefficients for at least so many variables.
+#[tactic(auto, unfolding(crate::specs::Linear::padded))]
+fn padded(alloc: Global, f: &Combination, width: usize) -> Result<Combination, LinearFault>
+    ensures { Meets {A = Form} (Ok (padded width f.now)) (λ h. h) result }
+{
+    let mut coefs = f.coefs.clone()?;
+    let more: Vec<i128> = vec![in alloc; 0; width.saturating_sub(f.coefs.len())]?;
+    coefs.extend_from_slice(&more)?;
+    Ok(Combination {
+        coefs,
+        constant: f.constant,
+    })
+}
+
+fn combined(
+    alloc: Global,
+    way: Join,
+    f: &Combination,
+    g: &Combination,
+) -> Result<Combination, LinearFault>
+    ensures { Meets (combined way f.now g.now) (λ h. h) result }
+{
+    let g = padded(alloc, g, f.coefs.len())?;
+    join_forms(alloc, way, f, &g)
+}
+
+/// The forms of so many variables, from the one at a place on.
+#[tactic(auto, using(crate::proofs::Variables::turn, crate::proofs::Variables::ended))]
+fn variable_forms(
+    alloc: Global,
+    width: usize,
+    place: usize,
+    count: usize,
+) -> Result<Vec<Combination>, LinearFault>
+    requires { place + count ≤ width }
+    ensures { Meets {A = List Form} (Ok (variable_forms width place count)) (λ forms. forms.items) result }
+{
+    let mut forms = Vec::new(alloc);
+    for number in 0..count {
+        forms.push(variable_form(alloc, width, place + number)?)?;
+    }
+    Ok(forms)
+}
+
+impl Combination {
+    /// The form of a number.
+    pub fn of_number(
+        alloc: Global,
+        width: usize,
+        constant: i128,
+    ) -> Result<Combination, LinearFault>
+        ensures { Meets {A = Form} (Ok (number_form width constant)) (λ f. f) result }
+    {
+        number_form(alloc, width, constant)
+    }
+
+    /// The form of the variable at a place.
+    pub fn of_variable(
+        alloc: Global,
+        width: usize,
+        place: usize,
+    ) -> Result<Combination, LinearFault>
+        ensures { Meets {A = Form} (Ok (variable_form width place)) (λ f. f) result }
+    {
+        variable_form(alloc, width, place)
+    }
+
+    /// The form with coefficients for at least so many variables.
+    pub fn padded(&self, alloc: Global, width: usize) -> Result<Combination, LinearFault>
+        ensures { Meets {A = Form} (Ok (padded width self.now)) (λ f. f) result }
+    {
+        padded(alloc, self, width)
+    }
+
+    /// This form less another: `Wide` where a number of the difference isn't in 128 bits.
+    #[tactic(auto, unfolding(crate::specs::Linear::minus))]
+    pub fn minus(&self, alloc: Global, other: &Combination) -> Result<Combination, LinearFault>
+        ensures { Meets (minus self.now other.now) (λ f. f) result }
+    {
+        combined(alloc, Join::Difference, self, other)
+    }
+}
+
+/// The forms of an expression's dimensions and symbols, over so many variables before its locals.
+#[derive(Drop)]
+pub struct Leaves<'a> {
+    pub width: usize,
+    pub dims: &'a [Combination],
+    pub syms: &'a [Combination],
+    pub ghost counted: { width < 2 ^ 33 },
+}
+
+impl Leaves<'_> {
+    fn width(&self, locals: &[Local]) -> usize
+        ensures { result ≡ self.now.width + length locals.now }
+    {
+        self.width + locals.len()
+    }
+
+    fn factor(&self, part: &Expr) -> Option<i64>
+        ensures { result ≡ (part_of self.now.width self.now.dims.now self.now.syms.now part.now).known }
+    {
+        part.known()
+    }
+
+    fn divisor(&self, part: &Expr) -> Option<i64>
+        ensures { result ≡ divisor (part_of self.now.width self.now.dims.now self.now.syms.now part.now).known }
+    {
+        positive(self.factor(part))
+    }
+
+    /// One of the forms, behind the locals so far.
+    fn leaf(
+        &self,
+        alloc: Global,
+        forms: &[Combination],
+        number: u32,
+        locals: &[Local],
+    ) -> Result<Combination, LinearFault>
+        ensures { GivesForm (leaf self.now.width (slice_get forms.now number) locals.now) locals.now result }
+    {
+        match forms.get(number as usize) {
+            Some(form) => padded(alloc, form, self.width(locals)),
+            None => Err(LinearFault::Wide),
+        }
+    }
 }
 
 #[tactic(auto, unfolding(crate::specs::Linear::raised))]
@@ -278,73 +379,64 @@ fn push_rest(
 }
 
 impl Expr {
-    fn formed(
+    fn found(
         &self,
         alloc: Global,
-        space: Space,
+        leaves: &Leaves<'_>,
         locals: &mut Vec<Local>,
     ) -> Result<Combination, LinearFault>
-        ensures { GivesForm (formed space.dims space.syms self.now locals.old.items) locals.new.items result }
+        ensures { GivesForm (formed leaves.now.width leaves.now.dims.now leaves.now.syms.now self.now locals.old.items) locals.new.items result }
     {
         match self {
-            Expr::Dim(number) => variable_form(alloc, space.width(locals), *number as usize),
-            Expr::Sym(number) => variable_form(
-                alloc,
-                space.width(locals),
-                space.dims as usize + *number as usize,
-            ),
-            Expr::Const(value) => number_form(alloc, space.width(locals), *value as i128),
-            Expr::Neg(part) => scale_form(alloc, -1, &part.get().formed(alloc, space, locals)?),
+            Expr::Dim(number) => leaves.leaf(alloc, leaves.dims, *number, locals),
+            Expr::Sym(number) => leaves.leaf(alloc, leaves.syms, *number, locals),
+            Expr::Const(value) => number_form(alloc, leaves.width(locals), *value as i128),
+            Expr::Neg(part) => scale_form(alloc, -1, &part.get().found(alloc, leaves, locals)?),
             Expr::Add(left, right) => {
-                let left = left.get().formed(alloc, space, locals)?;
-                join_forms(
-                    alloc,
-                    Join::Sum,
-                    &left,
-                    &right.get().formed(alloc, space, locals)?,
-                )
+                let left = left.get().found(alloc, leaves, locals)?;
+                let right = right.get().found(alloc, leaves, locals)?;
+                combined(alloc, Join::Sum, &left, &right)
             }
             Expr::Sub(left, right) => {
-                let left = left.get().formed(alloc, space, locals)?;
-                join_forms(
-                    alloc,
-                    Join::Difference,
-                    &left,
-                    &right.get().formed(alloc, space, locals)?,
-                )
+                let left = left.get().found(alloc, leaves, locals)?;
+                let right = right.get().found(alloc, leaves, locals)?;
+                combined(alloc, Join::Difference, &left, &right)
             }
-            Expr::Mul(left, right) => match (space.factor(left.get()), space.factor(right.get())) {
+            Expr::Mul(left, right) => match (
+                leaves.factor(left.get()),
+                leaves.factor(right.get()),
+            ) {
                 (_, Some(factor)) => scale_form(
                     alloc,
                     factor as i128,
-                    &left.get().formed(alloc, space, locals)?,
+                    &left.get().found(alloc, leaves, locals)?,
                 ),
                 (Some(factor), None) => scale_form(
                     alloc,
                     factor as i128,
-                    &right.get().formed(alloc, space, locals)?,
+                    &right.get().found(alloc, leaves, locals)?,
                 ),
                 (None, None) => Err(LinearFault::Wide),
             },
-            Expr::FloorDiv(left, right) => match space.divisor(right.get()) {
+            Expr::FloorDiv(left, right) => match leaves.divisor(right.get()) {
                 Some(divisor) => push_floor(
                     alloc,
-                    left.get().formed(alloc, space, locals)?,
+                    left.get().found(alloc, leaves, locals)?,
                     divisor,
                     locals,
                 ),
                 None => Err(LinearFault::Wide),
             },
-            Expr::CeilDiv(left, right) => match space.divisor(right.get()) {
+            Expr::CeilDiv(left, right) => match leaves.divisor(right.get()) {
                 Some(divisor) => {
-                    let left = raised(left.get().formed(alloc, space, locals)?, divisor)?;
+                    let left = raised(left.get().found(alloc, leaves, locals)?, divisor)?;
                     push_floor(alloc, left, divisor, locals)
                 }
                 None => Err(LinearFault::Wide),
             },
-            Expr::Mod(left, right) => match space.divisor(right.get()) {
+            Expr::Mod(left, right) => match leaves.divisor(right.get()) {
                 Some(divisor) => push_rest(
-                    left.get().formed(alloc, space, locals)?,
+                    left.get().found(alloc, leaves, locals)?,
                     divisor,
                     locals,
                 ),
@@ -353,33 +445,29 @@ impl Expr {
         }
     }
 
-    #[tactic(auto, unfolding(crate::specs::Linear::linear_found))]
-    fn linear_found(&self, alloc: Global, dims: u32, syms: u32) -> Result<Linear, LinearFault>
-        requires leaves { has_leaves_below dims syms self.now ≡ true }
-        ensures exact { Meets (linear_found dims syms self.now) (λ f. f) result }
-        ensures shaped { IfOk result (λ f. IsShaped (dims + syms) f) }
-        ensures means { IfOk result (λ f. (ds ss : List ℤ) → length ds ≡ dims → length ss ≡ syms → linear_value f (ds ++ ss) ≡ value ds ss self.now) }
-    {
-        let mut locals = Vec::new(alloc);
-        let Combination { coefs, constant } = self.formed(
-            alloc,
-            Space { dims, syms },
-            &mut locals,
-        )?;
-        Ok(Linear {
-            coefs,
-            constant,
-            locals,
-        })
-    }
-
-    /// The linear form of the expression over so many dimensions and symbols.
+    /// The form of the expression over the forms of its dimensions and symbols, behind the locals so far; its own locals are
+    /// put behind them.
     ///
     /// `floordiv` by c of a form f is a local, the floor of f over c; `ceildiv` is the `floordiv` of f + c - 1, and `mod`
     /// is f - c * q, where the local q is the `floordiv`. Each division gives one local, in the order of the text, and a
     /// side that has no dimension and no symbol counts by its value and gives none: the right one of a product where
     /// both are such. A refusal as `Wide` comes exactly where a coefficient or constant that is formed on the way, from
-    /// the leaves upward, isn't in 128 bits.
+    /// the leaves upward, isn't in 128 bits, or where the expression names a leaf that has no form.
+    pub fn formed(
+        &self,
+        alloc: Global,
+        leaves: &Leaves<'_>,
+        locals: &mut Vec<Local>,
+    ) -> Result<Combination, LinearFault>
+        requires pure { is_pure self.now ≡ true }
+        requires small { has_small_numbers self.now ≡ true }
+        ensures { GivesForm ((over leaves.now.width leaves.now.dims.now leaves.now.syms.now self.now).form locals.old.items) locals.new.items result }
+    {
+        self.found(alloc, leaves, locals)
+    }
+
+    /// The linear form of the expression over so many dimensions and symbols, by `formed` over the forms of the variables.
+    #[tactic(auto, unfolding(crate::specs::Linear::linear_of))]
     pub fn linear(&self, alloc: Global, dims: u32, syms: u32) -> Result<Linear, LinearFault>
         requires pure { is_pure self.now ≡ true }
         requires leaves { has_leaves_below dims syms self.now ≡ true }
@@ -388,6 +476,20 @@ impl Expr {
         ensures shaped { IfOk result (λ f. IsShaped (dims + syms) f) }
         ensures means { IfOk result (λ f. (ds ss : List ℤ) → length ds ≡ dims → length ss ≡ syms → linear_value f (ds ++ ss) ≡ value ds ss self.now) }
     {
-        self.linear_found(alloc, dims, syms)
+        let width = dims as usize + syms as usize;
+        let dim_forms = variable_forms(alloc, width, 0, dims as usize)?;
+        let sym_forms = variable_forms(alloc, width, dims as usize, syms as usize)?;
+        let leaves = Leaves {
+            width,
+            dims: dim_forms.as_slice(),
+            syms: sym_forms.as_slice(),
+        };
+        let mut locals = Vec::new(alloc);
+        let Combination { coefs, constant } = self.formed(alloc, &leaves, &mut locals)?;
+        Ok(Linear {
+            coefs,
+            constant,
+            locals,
+        })
     }
 }

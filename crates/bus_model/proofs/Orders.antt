@@ -10,7 +10,7 @@ use Rattle.bus_model.specs.Engines.{Flight, Device, Prompt, with_flight, flight_
 use Rattle.bus_model.proofs.Ledgers.{ledger_keeps, ledger_in, ledger_out}
 
 module _ (t : ℕ) (g : Flight → Flight) (keeps : (f : Flight) → (g f).transfer ≡ f.transfer) where
-  with_here : (xs : List Flight) (f : Flight) → flight_of xs t ≡ Some f → flight_of (with_flight xs t g) t ≡ Some (g f)
+  pub with_here : (xs : List Flight) (f : Flight) → flight_of xs t ≡ Some f → flight_of (with_flight xs t g) t ≡ Some (g f)
   with_here [] f e = absurd (cc)
   with_here (x ∷ xs) f e = elim (ℕ_discrete x.transfer.tag t) [
     | yes p ↦ let is : nat_eq x.transfer.tag t ≡ true = eq-eqb x.transfer.tag t p in
@@ -21,7 +21,7 @@ module _ (t : ℕ) (g : Flight → Flight) (keeps : (f : Flight) → (g f).trans
         ap (λ b. flight_of (if b then g x ∷ xs else x ∷ with_flight xs t g) t) is ∙ ap (λ b. if b then Some x else flight_of (with_flight xs t g) t) is ∙ with_here xs f (sym (ap (λ b. if b then Some x else flight_of xs t) is) ∙ e)
   ]
 
-  with_else : (xs : List Flight) (u : ℕ) → u ≢ t → flight_of (with_flight xs t g) u ≡ flight_of xs u
+  pub with_else : (xs : List Flight) (u : ℕ) → u ≢ t → flight_of (with_flight xs t g) u ≡ flight_of xs u
   with_else [] u ne = refl
   with_else (x ∷ xs) u ne = elim (ℕ_discrete x.transfer.tag t) [
     | yes p ↦ let is : nat_eq x.transfer.tag t ≡ true = eq-eqb x.transfer.tag t p in
@@ -32,7 +32,7 @@ module _ (t : ℕ) (g : Flight → Flight) (keeps : (f : Flight) → (g f).trans
   ]
 
   -- every flight after is one before, with the same transfer
-  same_transfer : (xs : List Flight) (f : Flight) → flight_of xs t ≡ Some f → (u : ℕ) (h : Flight) → flight_of (with_flight xs t g) u ≡ Some h → (o : Flight) × (flight_of xs u ≡ Some o) × (o.transfer ≡ h.transfer)
+  pub same_transfer : (xs : List Flight) (f : Flight) → flight_of xs t ≡ Some f → (u : ℕ) (h : Flight) → flight_of (with_flight xs t g) u ≡ Some h → (o : Flight) × (flight_of xs u ≡ Some o) × (o.transfer ≡ h.transfer)
   same_transfer xs f here u h is = elim (ℕ_discrete u t) [
     | yes e ↦ let now : flight_of (with_flight xs t g) u ≡ Some (g f) = ap (flight_of (with_flight xs t g)) e ∙ with_here xs f here in let q : g f ≡ h = cc in (f, ap (flight_of xs) e ∙ here, sym (keeps f) ∙ ap (λ (z : Flight). z.transfer) q)
     | no ne ↦ (h, sym (with_else xs u ne) ∙ is, refl)

@@ -112,12 +112,12 @@ back_known s n before frames sound empty is =
     let c = (safe_empty s empty sound.safe).0 in
     back s (on.Known n before) frames (with_known (name_at s.names n) before s.env) sound empty is refl (record { fasts = c.fasts; tags = c.tags })
 
-pub back_placed : (s : Stand) (n : ℕ) (before : Option Home) (frames : List Frame) → IsSound s → s.rest ≡ [] → s.frames ≡ on.Placed n before ∷ frames
+pub back_placed : (s : Stand) (n : ℕ) (before : Option Home) (frames : List Frame) → IsSound s → s.rest ≡ [] → s.frames ≡ on.Memref n before ∷ frames
     → Skips s (record s { frames = frames; env = with_home (name_at s.names n) (homes_meant before) s.env })
 unfolding jobs_of
 back_placed s n before frames sound empty is =
     let c = (safe_empty s empty sound.safe).0 in
-    back s (on.Placed n before) frames (with_home (name_at s.names n) (homes_meant before) s.env) sound empty is refl (record { fasts = c.fasts; tags = c.tags })
+    back s (on.Memref n before) frames (with_home (name_at s.names n) (homes_meant before) s.env) sound empty is refl (record { fasts = c.fasts; tags = c.tags })
 
 -- the statements behind a loop or a condition
 pub back_rest : (s : Stand) (statements : Bor (List Statement)) (passed : Counts) (frames : List Frame) → IsSound s → s.rest ≡ [] → s.frames ≡ on.Rest statements passed ∷ frames
@@ -461,7 +461,7 @@ opens_known s n z before sound inside room_ was = record {
 }
 
 pub opens_placed : (s : Stand) (n : ℕ) (home : Option Home) (before : Option Home) (h k : ℕ) → IsSound s → n < length s.names → length s.frames + 1 ≤ s.capacity → homes_meant before ≡ s.env.home (name_at s.names n)
-    → Opens s (on.Placed n before ∷ s.frames) (at_numbers h k (with_home (name_at s.names n) (homes_meant home) s.env))
+    → Opens s (on.Memref n before ∷ s.frames) (at_numbers h k (with_home (name_at s.names n) (homes_meant home) s.env))
 unfolding jobs_of Stacked
 opens_placed s n home before h k sound inside room_ was = record {
   back = λ f g. ap (jobs_of s.names s.frames) (home_back s.env (name_at s.names n) (homes_meant home) (homes_meant before) f g was);

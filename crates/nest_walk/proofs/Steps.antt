@@ -32,11 +32,13 @@ use Rattle.direct_meaning.specs.Static.{Env}
 use Rattle.direct_meaning.specs.Actions.{after_plain, action_of, actions}
 use Rattle.walk_program.specs.declared.plain.Plain.{Plain}
 use Rattle.walk_actions.specs.declared.action.Operand.{Operand}
-use Rattle.walk_actions.specs.Looked.{IsTable, env_of}
-use Rattle.nest_walk.specs.declared.position.Position.{Position}
+use Rattle.walk_actions.specs.Bindings.{Bindings}
+use Rattle.walk_actions.specs.Looked.{env_of}
+use Rattle.nest_walk.specs.Standing.{Standing}
 use Rattle.walk_actions.specs.declared.action.Home.{Home}
-use Rattle.nest_walk.specs.Jobs.{Stand, stand_of, past, at_numbers, all_actions, jobs_of, jobs_at}
-use Rattle.nest_walk.specs.Ready.{Stacked, room, IsSound, Skips, Opens, Acts, Opened, Acted}
+use Rattle.nest_walk.specs.Jobs.{Stand, stand_of, actions_left, past, at_numbers, all_actions, jobs_of, jobs_at}
+use Rattle.nest_walk.specs.Ready.{Stacked, room, IsSound, IsReady, Under, Skips, Opens, Acts, Opened, Acted}
+use Rattle.nest_walk.proofs.Frames.{under_stand}
 use Rattle.nest_walk.proofs.Stands.{turn_more, turn_done, left_empty, back_known, back_placed, back_rest, stands_fit, loop_started, first_taken, other_taken, opens_nothing, opens_same, opens_known, opens_placed, acted}
 use Rattle.direct_meaning.proofs.Laws.{turns_more, turns_end}
 
@@ -93,18 +95,18 @@ ended s a b v before at upper step start inside body sound empty end p q =
 -- ---- the highest frame is taken
 
 -- what stood there before the frame was taken
-pub whole_stand : (s t : Stand) (frame : Frame) → s.frames ≡ frame ∷ t.frames → t ≡ record s { frames = t.frames } → record t { frames = frame ∷ t.frames } ≡ s
-whole_stand s t frame is others = (λ i. record (others i) { frames = frame ∷ t.frames }) ∙ (λ i. record s { frames = sym is i })
+pub whole_standing : (p q : Standing) (frame : Frame) → p.frames ≡ frame ∷ q.frames → q ≡ record p { frames = q.frames } → record q { frames = frame ∷ q.frames } ≡ p
+whole_standing p q frame is others = (λ i. record (others i) { frames = frame ∷ q.frames }) ∙ (λ i. record p { frames = sym is i })
 
-pub whole_sound : (s t : Stand) (frame : Frame) → s.frames ≡ frame ∷ t.frames → t ≡ record s { frames = t.frames } → IsSound s → IsSound (record t { frames = frame ∷ t.frames })
-whole_sound s t frame is others sound = subst IsSound (sym (whole_stand s t frame is others)) sound
+pub whole_ready : (p q : Standing) (frame : Frame) → p.frames ≡ frame ∷ q.frames → q ≡ record p { frames = q.frames } → IsReady p → IsReady (record q { frames = frame ∷ q.frames })
+whole_ready p q frame is others ready = subst IsReady (sym (whole_standing p q frame is others)) ready
 
-pub none_open : (s : Stand) → s.rest ≡ [] → s.frames ≡ [] → all_actions (jobs_at s) ≡ []
+pub none_open : (p : Standing) → p.rest ≡ [] → p.frames ≡ [] → actions_left p ≡ []
 unfolding jobs_of
-none_open s empty none = left_empty s empty ∙ ap (λ fs. all_actions (jobs_of s.names fs s.env)) none
+none_open p empty none = left_empty (stand_of p) empty ∙ ap (λ fs. all_actions (jobs_of p.bindings.names fs (env_of p.bindings))) none
 
-pub none_stand : (s t : Stand) → s.frames ≡ t.frames → t ≡ record s { frames = t.frames } → t ≡ s
-none_stand s t is others = others ∙ (λ i. record s { frames = sym is i })
+pub none_standing : (p q : Standing) → p.frames ≡ q.frames → q ≡ record p { frames = q.frames } → q ≡ p
+none_standing p q is others = others ∙ (λ i. record p { frames = sym is i })
 
 -- a name has again what it had, and a memref's name stands for what it did
 pub known_again : (s a : Stand) (n : ℕ) (before : Option ℤ) → IsSound (record s { frames = on.Known n before ∷ s.frames }) → s.rest ≡ [] → a ≡ record s { env = with_known (name_at s.names n) before s.env } → Skips (record s { frames = on.Known n before ∷ s.frames }) a
@@ -112,16 +114,16 @@ known_again s a n before sound empty p =
     let whole : Stand = record s { frames = on.Known n before ∷ s.frames } in
     subst (Skips whole) (sym p) (back_known whole n before s.frames sound empty refl)
 
-pub placed_again : (s a : Stand) (n : ℕ) (before : Option Home) → IsSound (record s { frames = on.Placed n before ∷ s.frames }) → s.rest ≡ [] → a ≡ record s { env = with_home (name_at s.names n) (homes_meant before) s.env } → Skips (record s { frames = on.Placed n before ∷ s.frames }) a
+pub placed_again : (s a : Stand) (n : ℕ) (before : Option Home) → IsSound (record s { frames = on.Memref n before ∷ s.frames }) → s.rest ≡ [] → a ≡ record s { env = with_home (name_at s.names n) (homes_meant before) s.env } → Skips (record s { frames = on.Memref n before ∷ s.frames }) a
 placed_again s a n before sound empty p =
-    let whole : Stand = record s { frames = on.Placed n before ∷ s.frames } in
+    let whole : Stand = record s { frames = on.Memref n before ∷ s.frames } in
     subst (Skips whole) (sym p) (back_placed whole n before s.frames sound empty refl)
 
 pub known_inside : (s : Stand) (n : ℕ) (before : Option ℤ) → IsSound (record s { frames = on.Known n before ∷ s.frames }) → n < length s.names
 unfolding Stacked
 known_inside s n before sound = sound.stacked.0
 
-pub placed_inside : (s : Stand) (n : ℕ) (before : Option Home) → IsSound (record s { frames = on.Placed n before ∷ s.frames }) → n < length s.names
+pub placed_inside : (s : Stand) (n : ℕ) (before : Option Home) → IsSound (record s { frames = on.Memref n before ∷ s.frames }) → n < length s.names
 unfolding Stacked
 placed_inside s n before sound = sound.stacked.0
 
@@ -140,7 +142,7 @@ pass_fits s statements passed sound empty =
     let fit = stands_fit (record s { rest = statements.now; env = past passed s.env }) there.sound in
     (fit.fasts, fit.tags)
 
-pub ruleset backs = (whole_stand, whole_sound, none_open, none_stand)
+pub ruleset backs = (whole_standing, whole_ready, none_open, none_standing)
 
 -- ---- a loop or a condition is entered
 
@@ -180,65 +182,68 @@ other_moved s a b c d line set operands first n has other m rest f g sound is fa
 
 -- ---- a plain statement
 
-pub opened_at : (p : Position) (s : Stand) (frames : List Frame) (e : Env) → stand_of p ≡ record s { frames = frames; env = e } → IsTable p.scope → Opens s frames e → Opened p s e
-opened_at p s frames e is table opens =
-    let there : (stand_of p).frames ≡ frames = ap (λ (m : Stand). m.frames) is in
+pub opened_at : (p q : Standing) (frames : List Frame) (e : Env) → stand_of q ≡ record (stand_of p) { frames = frames; env = e } → Opens (stand_of p) frames e → Opened p q e
+opened_at p q frames e is opens =
+    let there : q.frames ≡ frames = ap (λ (m : Stand). m.frames) is in
     record {
-      opens = subst (λ fs. Opens s fs e) (sym there) opens;
-      at = record { stand = is ∙ (λ i. record s { frames = sym there i; env = e }); table = table };
+      opens = subst (λ fs. Opens (stand_of p) fs e) (sym there) opens;
+      at = is ∙ (λ i. record (stand_of p) { frames = sym there i; env = e });
     }
 
 -- a name that had no number has none now
-pub bound_same : (p : Position) (s : Stand) (n : ℕ) (z before : Option ℤ) → IsSound s → stand_of p ≡ record s { env = with_known (name_at s.names n) z s.env } → IsTable p.scope → None ≡ before → None ≡ z → before ≡ s.env.known (name_at s.names n)
-    → Opened p s (with_known (name_at s.names n) z s.env)
-bound_same p s n z before sound is table b none was =
-    opened_at p s s.frames (with_known (name_at s.names n) z s.env) is table (subst (λ y. Opens s s.frames (with_known (name_at s.names n) y s.env)) none (opens_same s n sound (b ∙ was)))
+pub bound_same : (p q : Standing) (n : ℕ) (z before : Option ℤ) → IsReady p → Under p q (with_known (name_at p.bindings.names n) z (env_of p.bindings)) → None ≡ before → None ≡ z → before ≡ (env_of p.bindings).known (name_at p.bindings.names n)
+    → Opened p q (with_known (name_at p.bindings.names n) z (env_of p.bindings))
+bound_same p q n z before ready at b none was =
+    let s = stand_of p in
+    opened_at p q s.frames (with_known (name_at s.names n) z s.env) (under_stand p q (with_known (name_at s.names n) z s.env) at) (subst (λ y. Opens s s.frames (with_known (name_at s.names n) y s.env)) none (opens_same s n ready (b ∙ was)))
 
 -- what a name had is put down
-pub bound_new : (p : Position) (s a : Stand) (n : ℕ) (z before : Option ℤ) → IsSound s → n < length s.names → length s.frames + 1 ≤ s.capacity → a ≡ record s { env = with_known (name_at s.names n) z s.env } → before ≡ s.env.known (name_at s.names n)
-    → stand_of p ≡ record a { frames = on.Known n before ∷ a.frames } → IsTable p.scope → Opened p s (with_known (name_at s.names n) z s.env)
-bound_new p s a n z before sound inside room_ q was is table =
-    opened_at p s (on.Known n before ∷ s.frames) (with_known (name_at s.names n) z s.env) (is ∙ ap {B = Stand} (λ (m : Stand). record m { frames = on.Known n before ∷ m.frames }) q) table (opens_known s n z before sound inside room_ was)
+pub bound_new : (p a q : Standing) (n : ℕ) (z before : Option ℤ) → IsReady p → n < length p.bindings.names → length p.frames + 1 ≤ p.capacity → Under p a (with_known (name_at p.bindings.names n) z (env_of p.bindings)) → before ≡ (env_of p.bindings).known (name_at p.bindings.names n)
+    → q ≡ record a { frames = on.Known n before ∷ a.frames } → Opened p q (with_known (name_at p.bindings.names n) z (env_of p.bindings))
+bound_new p a q n z before ready inside room_ at was is =
+    let s = stand_of p in
+    let e = with_known (name_at s.names n) z s.env in
+    opened_at p q (on.Known n before ∷ s.frames) e (ap stand_of is ∙ ap {B = Stand} (λ (m : Stand). record m { frames = on.Known n before ∷ m.frames }) (under_stand p a e at)) (opens_known s n z before ready inside room_ was)
 
-pub placed_new : (p : Position) (s a b : Stand) (n : ℕ) (home : Option Home) (before : Option Home) (f g : ℕ) → IsSound s → n < length s.names → length s.frames + 1 ≤ s.capacity → a ≡ record s { env = with_home (name_at s.names n) (homes_meant home) s.env }
-    → homes_meant before ≡ s.env.home (name_at s.names n) → b ≡ record a { env = at_numbers f g a.env } → stand_of p ≡ record b { frames = on.Placed n before ∷ b.frames } → IsTable p.scope
-    → Opened p s (at_numbers f g (with_home (name_at s.names n) (homes_meant home) s.env))
-placed_new p s a b n home before f g sound inside room_ q was r is table =
-    let to_b = r ∙ ap {B = Stand} (λ (m : Stand). record m { env = at_numbers f g m.env }) q in
-    opened_at p s (on.Placed n before ∷ s.frames) (at_numbers f g (with_home (name_at s.names n) (homes_meant home) s.env)) (is ∙ ap {B = Stand} (λ (m : Stand). record m { frames = on.Placed n before ∷ m.frames }) to_b) table
-    (opens_placed s n home before f g sound inside room_ was)
+pub placed_new : (p a b q : Standing) (n : ℕ) (home : Option Home) (before : Option Home) (f g : ℕ) → IsReady p → n < length p.bindings.names → length p.frames + 1 ≤ p.capacity → Under p a (with_home (name_at p.bindings.names n) (homes_meant home) (env_of p.bindings))
+    → homes_meant before ≡ (env_of p.bindings).home (name_at p.bindings.names n) → b ≡ record a { bindings = record a.bindings { fasts = f; tags = g } } → q ≡ record b { frames = on.Memref n before ∷ b.frames }
+    → Opened p q (at_numbers f g (with_home (name_at p.bindings.names n) (homes_meant home) (env_of p.bindings)))
+placed_new p a b q n home before f g ready inside room_ at was r is =
+    let s = stand_of p in
+    let e = with_home (name_at s.names n) (homes_meant home) s.env in
+    let to_b : stand_of b ≡ record s { env = at_numbers f g e } = ap stand_of r ∙ ap {B = Stand} (λ (m : Stand). record m { env = at_numbers f g m.env }) (under_stand p a e at) in
+    opened_at p q (on.Memref n before ∷ s.frames) (at_numbers f g e) (ap stand_of is ∙ ap {B = Stand} (λ (m : Stand). record m { frames = on.Memref n before ∷ m.frames }) to_b) (opens_placed s n home before f g ready inside room_ was)
 
-pub same_kept : (p : Position) (s : Stand) → IsSound s → stand_of p ≡ s → IsTable p.scope → Opened p s s.env
-same_kept p s sound is table = opened_at p s s.frames s.env is table (opens_nothing s sound)
+pub same_kept : (p : Standing) → IsReady p → Opened p p (env_of p.bindings)
+same_kept p ready = opened_at p p p.frames (env_of p.bindings) refl (opens_nothing (stand_of p) ready)
 
 -- the room stays, whatever the subscripts
 resubscripted : (s : Stand) (uses : List Operand) → IsSound s → IsSound (record s { subscripts = uses })
 unfolding jobs_at
 resubscripted s uses sound = record { made = sound.made; uses = sound.uses; stacked = sound.stacked; room = sound.room; safe = sound.safe }
 
-pub still_sound : (s b : Stand) → IsSound s → b ≡ record s { subscripts = b.subscripts } → IsSound b
-still_sound s b sound is = subst IsSound (sym is) (resubscripted s b.subscripts sound)
+pub still_ready : (p q : Standing) → IsReady p → q ≡ record p { subscripts = q.subscripts } → IsReady q
+still_ready p q ready is = subst IsSound (sym (ap stand_of is)) (resubscripted (stand_of p) q.subscripts ready)
 
 acts_from : (s t : Stand) (uses : List Operand) (action : Action) → Acts (record s { subscripts = uses }) t action → Acts s t action
 unfolding jobs_at
 acts_from s t uses action h = record { sound = h.sound; left = h.left; names = h.names; width = h.width }
 
 -- a plain statement's action, its change and its rest, from the moves that they are made of
-pub acted_at : (s b : Stand) (c d : Position) (line : ℕ) (p : Plain) (rest : Bor (List Statement)) (e : Env) (action : Action) → IsSound s → tree s.rest ≡ Does line p (tree rest.now)
-    → b ≡ record s { subscripts = b.subscripts } → e ≡ after_plain (plain_of s.names p) s.env → Opened c b e → stand_of d ≡ record (stand_of c) { rest = rest.now } → IsTable d.scope → action ≡ action_of (plain_of s.names p) s.env → Acted d s action
-acted_at s b c d line p rest e action sound is q after_ opened r table means =
+pub acted_at : (p b c d : Standing) (line : ℕ) (plain : Plain) (rest : Bor (List Statement)) (e : Env) (action : Action) → IsReady p → tree p.rest ≡ Does line plain (tree rest.now)
+    → b ≡ record p { subscripts = b.subscripts } → e ≡ after_plain (plain_of p.bindings.names plain) (env_of p.bindings) → Opened b c e → d ≡ record c { rest = rest.now } → action ≡ action_of (plain_of p.bindings.names plain) (env_of p.bindings) → Acted p d action
+acted_at p b c d line plain rest e action ready is q after_ opened r means =
+    let s = stand_of p in
     let there : Stand = record s { subscripts = b.subscripts } in
-    let sound' = resubscripted s b.subscripts sound in
-    let frames = (stand_of c).frames in
-    let opens : Opens there frames e = subst (λ (m : Stand). Opens m frames e) q opened.opens in
-    let to_c : stand_of c ≡ record there { frames = frames; env = e } = opened.at.stand ∙ ap {B = Stand} (λ (m : Stand). record m { frames = frames; env = e }) q in
-    let to_d = r ∙ ap {B = Stand} (λ (m : Stand). record m { rest = rest.now }) to_c in
+    let ready' = resubscripted s b.subscripts ready in
+    let frames = c.frames in
+    let to_b : stand_of b ≡ there = ap stand_of q in
+    let opens : Opens there frames e = subst (λ (m : Stand). Opens m frames e) to_b opened.opens in
+    let to_c : stand_of c ≡ record there { frames = frames; env = e } = opened.at ∙ ap {B = Stand} (λ (m : Stand). record m { frames = frames; env = e }) to_b in
+    let to_d = ap stand_of r ∙ ap {B = Stand} (λ (m : Stand). record m { rest = rest.now }) to_c in
     let u : Stand = record there { frames = frames; env = e; rest = rest.now } in
-    let acts = acts_from s u b.subscripts action (subst (Acts there u) (sym means) (acted there line p rest frames e sound' is after_ opens)) in
-    record {
-      acts = subst (λ (m : Stand). Acts s m action) (sym to_d) acts;
-      table = table;
-    }
+    let acts = acts_from s u b.subscripts action (subst (Acts there u) (sym means) (acted there line plain rest frames e ready' is after_ opens)) in
+    subst (λ (m : Stand). Acts s m action) (sym to_d) acts
 
 -- the next allocation, by what is counted so far
 pub fast_changed : (e : Env) (n : Name) (fasts tags : ℕ) → e.fasts ≡ fasts → e.tags ≡ tags → at_numbers (fasts + 1) tags (with_home n (Some (FastMemref fasts)) e) ≡ record e { home = put e.home n (Some (FastMemref e.fasts)); fasts = suc e.fasts }
@@ -273,10 +278,9 @@ plain_there statements first rest p is f = first_tree statements first rest _ is
 
 -- ---- the beginning
 
-pub begins : (p : Position) (names : List Name) (body : List Statement) (e : Env) (width : ℕ) → p.frames.items ≡ [] → p.rest.now ≡ body → p.scope.names.now ≡ names → env_of p.scope ≡ e → vec_capacity p.numbers ≡ width → vec_capacity p.subscripts ≡ width → vec_capacity p.frames ≡ room body
-    → stand_of p ≡ record { names = names; frames = []; rest = body; env = e; subscripts = p.subscripts.items; width = width; uses = width; capacity = room body }
-unfolding stand_of
-begins p names body e width f r n v w u c = λ i. record { names = n i; frames = reverse (f i); rest = r i; env = v i; subscripts = p.subscripts.items; width = w i; uses = u i; capacity = c i }
+pub begins : (p : Standing) (bindings : Bindings) (names : List Name) (body : List Statement) (e : Env) (width : ℕ) → p ≡ record { frames = []; rest = body; bindings = bindings; subscripts = []; width = width; uses = width; capacity = room body } → bindings.names ≡ names → env_of bindings ≡ e
+    → stand_of p ≡ record { names = names; frames = []; rest = body; env = e; subscripts = []; width = width; uses = width; capacity = room body }
+begins p bindings names body e width is n v = ap stand_of is ∙ (λ i. record { names = n i; frames = []; rest = body; env = v i; subscripts = []; width = width; uses = width; capacity = room body })
 
 pub begin_sound : (names : List Name) (body : List Statement) (e : Env) (width : ℕ) (uses : List Operand) → Numbered (length names) width (tree body) → Counted names (tree body) → SafeNest (nest_of names (tree body)) e
     → IsSound (record { names = names; frames = []; rest = body; env = e; subscripts = uses; width = width; uses = width; capacity = room body })

@@ -1,5 +1,5 @@
 -- What is left to do where a walk stands, as a list of regions and loops, each under what is known at its place.
-use Rattle.std.specs.Prelude.{ℕ, ◌+◌, ℤ, pos, ◌≤ℤ◌, ◌<ℤ◌, List, [], ◌∷◌, ◌++◌, length, reverse, flat_map, vec_capacity, if◌then◌else◌}
+use Rattle.std.specs.Prelude.{ℕ, ◌+◌, ℤ, pos, ◌≤ℤ◌, ◌<ℤ◌, List, [], ◌∷◌, ◌++◌, length, flat_map, if◌then◌else◌}
 use Rattle.affine_ast.specs.declared.name.Name.{Name}
 use Rattle.affine_ast.specs.Nest.{Nest, Nothing, Loop, Branch, Does}
 use Rattle.direct_meaning.specs.Action.{Action}
@@ -15,8 +15,8 @@ use Rattle.walk_program.specs.Tree.{tree}
 use Rattle.walk_actions.specs.declared.action.Operand.{Operand}
 use Rattle.walk_actions.specs.Looked.{env_of, homes_meant, with_known, with_home}
 use Rattle.nest_walk.specs.declared.frame.Frame.{Frame}
-use Rattle.nest_walk.specs.declared.frame.Frame.TheVariants.{Rest, Known, Placed, Turns}
-use Rattle.nest_walk.specs.declared.position.Position.{Position}
+use Rattle.nest_walk.specs.declared.frame.Frame.TheVariants.{Rest, Known, Memref, Turns}
+use Rattle.nest_walk.specs.Standing.{Standing}
 
 pub data Job : Type 0 where
   -- the statements of a region
@@ -48,8 +48,9 @@ at_numbers f t e = record e { fasts = f; tags = t }
 abbrev pub at_counts : Counts → Env → Env
 at_counts counts e = record e { fasts = counts.fasts; tags = counts.tags }
 
--- where a walk stands: the names of the module, what is open below with the highest first, the statements in hand, what is
--- known there, the subscripts beside the last action, and room for the operands of a map, for subscripts and for frames
+-- where a walk stands: the names of the module, what is open below with the highest first, the statements in hand, what
+-- is known there, the subscripts beside the last action, and room for the operands of a map, for subscripts and for
+-- frames
 pub record Stand : Type 0 where
   pub names : List Name
   pub frames : List Frame
@@ -60,36 +61,44 @@ pub record Stand : Type 0 where
   pub uses : ℕ
   pub capacity : ℕ
 
-unfoldable pub stand_of : Position → Stand
+-- where a walk stands, by the names of its numbers
+abbrev pub stand_of : Standing → Stand
 stand_of p = record {
-  names = p.scope.names.now;
-  frames = reverse p.frames.items;
-  rest = p.rest.now;
-  env = env_of p.scope;
-  subscripts = p.subscripts.items;
-  width = vec_capacity p.numbers;
-  uses = vec_capacity p.subscripts;
-  capacity = vec_capacity p.frames;
+  names = p.bindings.names;
+  frames = p.frames;
+  rest = p.rest;
+  env = env_of p.bindings;
+  subscripts = p.subscripts;
+  width = p.width;
+  uses = p.uses;
+  capacity = p.capacity;
 }
 
 -- what the frames of a walk leave to do under what is known there
 unfoldable pub jobs_of : List Name → List Frame → Env → List Job
 jobs_of names [] e = []
-jobs_of names (Rest statements passed ∷ frames) e = Region (region_of names statements.now) (past passed e) ∷ jobs_of names frames (behind (region_of names statements.now) (past passed e))
+jobs_of names (Rest statements passed ∷ frames) e = Region (region_of names statements.now) (past passed e)
+    ∷ jobs_of names frames (behind (region_of names statements.now) (past passed e))
 jobs_of names (Known n before ∷ frames) e = jobs_of names frames (with_known (name_at names n) before e)
-jobs_of names (Placed n before ∷ frames) e = jobs_of names frames (with_home (name_at names n) (homes_meant before) e)
+jobs_of names (Memref n before ∷ frames) e = jobs_of names frames (with_home (name_at names n) (homes_meant before) e)
 jobs_of names (Turns v before at upper step start inside body ∷ frames) e =
     let loop = at_counts start (with_known (name_at names v) before e) in
-    Turning (name_at names v) at upper step (region_of names body.now) loop ∷ jobs_of names frames (behind (region_of names body.now) loop)
+    Turning (name_at names v) at upper step (region_of names body.now) loop
+    ∷ jobs_of names frames (behind (region_of names body.now) loop)
 
 -- what is left to do where a walk stands
 unfoldable pub jobs_at : Stand → List Job
 jobs_at s = Region (region_of s.names s.rest) s.env ∷ jobs_of s.names s.frames (behind (region_of s.names s.rest) s.env)
 
+-- the actions that a walk has left to give
+abbrev pub actions_left : Standing → List Action
+actions_left p = all_actions (jobs_at (stand_of p))
+
 -- every number of a job fits
 abbrev pub SafeJob : Job → Type 0
 SafeJob (Region region e) = SafeNest region e
-SafeJob (Turning v at upper step body e) = CountsFit (behind body e) × (pos 0 <ℤ step) × ((t : ℤ) → at ≤ℤ t → t <ℤ upper → SafeNest body (knows e v t))
+SafeJob (Turning v at upper step body e) = CountsFit (behind body e) × (pos 0 <ℤ step)
+    × ((t : ℤ) → at ≤ℤ t → t <ℤ upper → SafeNest body (knows e v t))
 
 abbrev pub SafeJobs : List Job → Type 0
 SafeJobs [] = Unit {0}
@@ -104,9 +113,11 @@ turn_steps steps (t ∷ ts) = 1 + steps t + turn_steps steps ts
 -- entering a loop or a condition puts two frames down at most
 unfoldable pub steps_in : Nest → Env → ℕ
 steps_in Nothing e = 0
-steps_in (Loop line v l u s body rest) e = 3 + turn_steps (λ t. steps_in body (knows e v t)) (turns (lower_of e l) (upper_of e u) s) + steps_in rest (behind body e)
+steps_in (Loop line v l u s body rest) e = 3 + turn_steps (λ t. steps_in body (knows e v t))
+    (turns (lower_of e l) (upper_of e u) s) + steps_in rest (behind body e)
 steps_in (Branch line set names first has other rest) e =
-    2 + (if holds_at e set names then steps_in first e else steps_in other (behind first e)) + steps_in rest (behind other (behind first e))
+    2 + (if holds_at e set names then steps_in first e else steps_in other (behind first e))
+    + steps_in rest (behind other (behind first e))
 steps_in (Does line p rest) e = 1 + steps_in rest (after_plain p e)
 
 abbrev pub job_steps : Job → ℕ

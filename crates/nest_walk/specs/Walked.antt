@@ -11,8 +11,8 @@ use Rattle.walk_actions.specs.declared.action.Action.{Action}
 use Rattle.walk_actions.specs.declared.action.Operand.{Operand}
 use Rattle.walk_actions.specs.Meant.{meant, NamesIn}
 
--- the names of the module, by number; the actions that are left, in order; the subscripts of the last action where it is a raw
--- access
+-- the names of the module, by number; the actions that are left, in order; the subscripts of the last action where it
+-- is a raw access
 pub record Walked : Type 0 where
   pub names : List Name
   pub left : List meaning.Action
@@ -38,4 +38,5 @@ Next (Some action) old new = Gives action old new
 -- a walk at the beginning of a module: it has all actions to give that the module has for these index arguments
 pub record Begins (program : Program) (symbols : List ℤ) (walk : Walked) : Type 0 where
   pub names : walk.names ≡ program.names
-  pub left : walk.left ≡ actions (nest_of program.names (tree program.body)) (start_env (arguments_of program.names program.arguments) symbols)
+  pub left : walk.left ≡ actions (nest_of program.names (tree program.body))
+      (start_env (arguments_of program.names program.arguments) symbols)

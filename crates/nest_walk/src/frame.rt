@@ -6,8 +6,8 @@ use walk_program::{Counts, Statement};
 /// What is to be done when the statements in hand are done.
 #[derive(Drop)]
 pub enum Frame<'p> {
-    /// The statements behind a loop or a condition, with what is allocated in the text of the `else` region where the first region
-    /// was taken; nothing elsewhere.
+    /// The statements behind a loop or a condition, with what is allocated in the text of the `else` region where the
+    /// first region was taken; nothing elsewhere.
     Rest {
         statements: &'p [Statement],
         passed: Counts,
@@ -18,12 +18,12 @@ pub enum Frame<'p> {
         before: Option<i64>,
     },
     /// What a memref's name stood for before the region gave it to an allocation.
-    Placed {
+    Memref {
         name: u32,
         before: Option<Home>,
     },
-    /// The turns that are left of a loop: the number that its variable had before it, the next turn, what is allocated before the
-    /// loop and in its body.
+    /// The turns that are left of a loop: the number that its variable had before it, the next turn, what is allocated
+    /// before the loop and in its body.
     Turns {
         var: u32,
         before: Option<i64>,

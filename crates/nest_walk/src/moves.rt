@@ -1,6 +1,7 @@
 // The moves of a walk: back to what is open below, into loops and conditions, and over plain statements.
 
-ghost use Rattle.std.specs.Prelude.{◌≡◌, ◌+◌, ◌<◌, ◌≤◌, ℕ, Bool, List, [], ◌∷◌, length, vec_capacity, Option, None, Some, true, false, pos, ◌+ℤ◌, ◌<ℤ◌, ◌≤ℤ◌};
+ghost use Rattle.std.specs.Prelude.{◌≡◌, ◌+◌, ◌<◌, ◌≤◌, ℕ, Bool, List, [], ◌∷◌, length, vec_capacity, Option, None};
+ghost use Rattle.std.specs.Prelude.{Some, true, false, pos, ◌+ℤ◌, ◌<ℤ◌, ◌≤ℤ◌};
 ghost use Rattle.affine_ast.specs.declared.name.Name.{Name as TheName};
 ghost use Rattle.direct_meaning.specs.Turns.{turns};
 ghost use Rattle.direct_meaning.specs.Actions.{action_of};
@@ -9,12 +10,12 @@ ghost use Rattle.walk_program.specs.Names.{name_at};
 ghost use Rattle.walk_program.specs.Reading.{plain_of};
 ghost use Rattle.walk_program.specs.Tree.{tree, Loop, Branch, Does};
 ghost use Rattle.walk_actions.specs.Changed.{changed, ChangesIn};
-ghost use Rattle.walk_actions.specs.Looked.{IsTable, with_known, with_home, homes_meant};
+ghost use Rattle.walk_actions.specs.Looked.{env_of, with_known, with_home, homes_meant};
 ghost use Rattle.walk_actions.specs.Meant.{meant, NamesIn};
 ghost use Rattle.nest_walk.specs.declared.frame.Frame.TheVariants as on;
-ghost use Rattle.nest_walk.specs.Jobs.{stand_of, at_numbers, jobs_at, all_actions};
-ghost use Rattle.nest_walk.specs.Ready.{IsAt, IsReady, IsSound, Moved, Opened, Acted, Steps};
-ghost use Rattle.nest_walk.specs.Stepped.{IsStep, Advances};
+ghost use Rattle.nest_walk.specs.Jobs.{at_numbers, actions_left};
+ghost use Rattle.nest_walk.specs.Ready.{IsReady, Moved, Opened, Acted, Steps};
+ghost use Rattle.nest_walk.specs.Advances.{Advances};
 
 use crate::frame::Frame;
 use crate::position::Position;
@@ -39,25 +40,15 @@ fn later(at: i64, upper: i64, step: i64) -> i64
     }
 }
 
-/// A step of a walk: to an action, on the way to one, or none where all is done.
-#[derive(Clone, Copy)]
-pub enum Step<'p> {
-    Acts(Action<'p>),
-    Skips,
-    Ends,
-}
-
 impl<'p> Position<'p> {
     /// The statements behind a loop or a condition.
     fn pass(&mut self, statements: &'p [Statement], passed: Counts)
-        requires table { IsTable self.old.scope }
-        requires sound { IsSound (record (stand_of self.old) { frames = on.Rest statements passed ∷ (stand_of self.old).frames }) }
-        requires empty { (stand_of self.old).rest ≡ [] }
-        ensures { Moved self.new (record (stand_of self.old) { frames = on.Rest statements.entry passed ∷ (stand_of self.old).frames }) }
+        requires ready { IsReady (record self.old { frames = on.Rest statements passed ∷ self.old.frames }) }
+        requires empty { self.old.rest ≡ [] }
+        ensures { Moved (record self.old { frames = on.Rest statements.entry passed ∷ self.old.frames }) self.new }
     {
-        let fasts = self.scope.fasts + passed.fasts;
-        let tags = self.scope.tags + passed.tags;
-        self.count(fasts, tags);
+        let before = self.counts();
+        self.count(before.fasts + passed.fasts, before.tags + passed.tags);
         self.take(statements);
     }
 
@@ -73,10 +64,14 @@ impl<'p> Position<'p> {
         inside: Counts,
         body: &'p [Statement],
     )
-        requires table { IsTable self.old.scope }
-        requires sound { IsSound (record (stand_of self.old) { frames = on.Turns var before at upper step start inside body ∷ (stand_of self.old).frames }) }
-        requires empty { (stand_of self.old).rest ≡ [] }
-        ensures { Moved self.new (record (stand_of self.old) { frames = on.Turns var before at upper step start inside body.entry ∷ (stand_of self.old).frames }) }
+        requires ready { IsReady (record self.old {
+          frames = on.Turns var before at upper step start inside body ∷ self.old.frames;
+        }) }
+        requires empty { self.old.rest ≡ [] }
+        ensures { Moved (record self.old {
+          frames = on.Turns var before at upper step start inside body.entry
+              ∷ self.old.frames;
+        }) self.new }
     {
         if at < upper {
             let next = later(at, upper, step);
@@ -101,35 +96,32 @@ impl<'p> Position<'p> {
 
     /// A name gets back the number that it had.
     fn know_again(&mut self, name: u32, before: Option<i64>)
-        requires table { IsTable self.old.scope }
-        requires sound { IsSound (record (stand_of self.old) { frames = on.Known name before ∷ (stand_of self.old).frames }) }
-        requires empty { (stand_of self.old).rest ≡ [] }
-        ensures { Moved self.new (record (stand_of self.old) { frames = on.Known name before ∷ (stand_of self.old).frames }) }
+        requires ready { IsReady (record self.old { frames = on.Known name before ∷ self.old.frames }) }
+        requires empty { self.old.rest ≡ [] }
+        ensures { Moved (record self.old { frames = on.Known name before ∷ self.old.frames }) self.new }
     {
         self.know(name, before);
     }
 
     /// A name stands again for what it stood for.
     fn stand_again(&mut self, name: u32, before: Option<Home>)
-        requires table { IsTable self.old.scope }
-        requires sound { IsSound (record (stand_of self.old) { frames = on.Placed name before ∷ (stand_of self.old).frames }) }
-        requires empty { (stand_of self.old).rest ≡ [] }
-        ensures { Moved self.new (record (stand_of self.old) { frames = on.Placed name before ∷ (stand_of self.old).frames }) }
+        requires ready { IsReady (record self.old { frames = on.Memref name before ∷ self.old.frames }) }
+        requires empty { self.old.rest ≡ [] }
+        ensures { Moved (record self.old { frames = on.Memref name before ∷ self.old.frames }) self.new }
     {
         self.stand(name, before);
     }
 
     /// Goes on with a frame that was taken.
     fn resume(&mut self, frame: Frame<'p>)
-        requires table { IsTable self.old.scope }
-        requires sound { IsSound (record (stand_of self.old) { frames = frame ∷ (stand_of self.old).frames }) }
-        requires empty { (stand_of self.old).rest ≡ [] }
-        ensures { Moved self.new (record (stand_of self.old) { frames = frame.entry ∷ (stand_of self.old).frames }) }
+        requires ready { IsReady (record self.old { frames = frame ∷ self.old.frames }) }
+        requires empty { self.old.rest ≡ [] }
+        ensures { Moved (record self.old { frames = frame.entry ∷ self.old.frames }) self.new }
     {
         match frame {
             Frame::Rest { statements, passed } => self.pass(statements, passed),
             Frame::Known { name, before } => self.know_again(name, before),
-            Frame::Placed { name, before } => self.stand_again(name, before),
+            Frame::Memref { name, before } => self.stand_again(name, before),
             Frame::Turns {
                 var,
                 before,
@@ -147,9 +139,9 @@ impl<'p> Position<'p> {
     #[tactic(auto, using(crate::proofs::Steps::backs))]
     pub fn back(&mut self) -> bool
         requires ready { IsReady self.old }
-        requires empty { (stand_of self.old).rest ≡ [] }
-        ensures moved { result ≡ true → Moved self.new (stand_of self.old) }
-        ensures ended { result ≡ false → (all_actions (jobs_at (stand_of self.old)) ≡ []) × IsAt self.new (stand_of self.old) }
+        requires empty { self.old.rest ≡ [] }
+        ensures moved { result ≡ true → Moved self.old self.new }
+        ensures ended { result ≡ false → (actions_left self.old ≡ []) × (self.new ≡ self.old) }
     {
         match self.pop() {
             None => false,
@@ -172,16 +164,14 @@ impl<'p> Position<'p> {
         rest: &'p [Statement],
     )
         requires ready { IsReady self.old }
-        requires there { (line : ℕ) × (tree (stand_of self.old).rest ≡ Loop line var lower.now upper.now step inside (tree body.now) (tree rest.now)) }
-        ensures { Moved self.new (stand_of self.old) }
+        requires there { (line : ℕ) × (tree self.old.rest
+            ≡ Loop line var lower.now upper.now step inside (tree body.now) (tree rest.now)) }
+        ensures { Moved self.old self.new }
     {
         let at = self.lower(lower);
         let upper = self.upper(upper);
         let before = self.known(var);
-        let start = Counts {
-            fasts: self.scope.fasts,
-            tags: self.scope.tags,
-        };
+        let start = self.counts();
         self.push(Frame::Rest {
             statements: rest,
             passed: NONE,
@@ -211,8 +201,10 @@ impl<'p> Position<'p> {
         rest: &'p [Statement],
     )
         requires ready { IsReady self.old }
-        requires there { (line : ℕ) × (has : Bool) × (tree (stand_of self.old).rest ≡ Branch line set.now operands.now (tree first.now) first_inside has (tree other.now) other_inside (tree rest.now)) }
-        ensures { Moved self.new (stand_of self.old) }
+        requires there { (line : ℕ) × (has : Bool) × (tree self.old.rest
+            ≡ Branch line set.now operands.now (tree first.now) first_inside has (tree other.now) other_inside
+            (tree rest.now)) }
+        ensures { Moved self.old self.new }
     {
         if self.holds(set, operands) {
             self.push(Frame::Rest {
@@ -221,9 +213,11 @@ impl<'p> Position<'p> {
             });
             self.take(first);
         } else {
-            let fasts = self.scope.fasts + first_inside.fasts;
-            let tags = self.scope.tags + first_inside.tags;
-            self.count(fasts, tags);
+            let before = self.counts();
+            self.count(
+                before.fasts + first_inside.fasts,
+                before.tags + first_inside.tags,
+            );
             self.push(Frame::Rest {
                 statements: rest,
                 passed: NONE,
@@ -234,11 +228,11 @@ impl<'p> Position<'p> {
 
     /// Gives a name a number, or none, and puts down what it had, where it had one or has one now.
     fn bind(&mut self, name: u32, number: Option<i64>)
-        requires table { IsTable self.old.scope }
-        requires sound { IsSound (stand_of self.old) }
-        requires name { name < length (stand_of self.old).names }
-        requires room { length (stand_of self.old).frames + 1 ≤ (stand_of self.old).capacity }
-        ensures { Opened self.new (stand_of self.old) (with_known (name_at (stand_of self.old).names name) number (stand_of self.old).env) }
+        requires ready { IsReady self.old }
+        requires name { name < length self.old.bindings.names }
+        requires room { length self.old.frames + 1 ≤ self.old.capacity }
+        ensures { Opened self.old self.new (with_known (name_at self.old.bindings.names name) number
+            (env_of self.old.bindings)) }
     {
         let before = self.know(name, number);
         if before.is_none() {
@@ -251,28 +245,26 @@ impl<'p> Position<'p> {
 
     /// Lets a name stand for an allocation, puts down what it stood for, and counts what is allocated then.
     fn place(&mut self, name: u32, home: Home, fasts: u32, tags: u32)
-        requires table { IsTable self.old.scope }
-        requires sound { IsSound (stand_of self.old) }
-        requires name { name < length (stand_of self.old).names }
-        requires room { length (stand_of self.old).frames + 1 ≤ (stand_of self.old).capacity }
-        ensures { Opened self.new (stand_of self.old) (at_numbers fasts tags (with_home (name_at (stand_of self.old).names name) (homes_meant (Some home)) (stand_of self.old).env)) }
+        requires ready { IsReady self.old }
+        requires name { name < length self.old.bindings.names }
+        requires room { length self.old.frames + 1 ≤ self.old.capacity }
+        ensures { Opened self.old self.new (at_numbers fasts tags
+            (with_home (name_at self.old.bindings.names name) (homes_meant (Some home)) (env_of self.old.bindings))) }
     {
         let before = self.stand(name, Some(home));
         self.count(fasts, tags);
-        self.push(Frame::Placed { name, before });
+        self.push(Frame::Memref { name, before });
     }
 
     /// Makes known what a plain statement does.
     fn change(&mut self, change: Change)
-        requires table { IsTable self.old.scope }
-        requires sound { IsSound (stand_of self.old) }
-        requires inside { ChangesIn (length (stand_of self.old).names) change }
-        requires fits { CountsFit (changed (stand_of self.old).names change (stand_of self.old).env) }
-        requires room { length (stand_of self.old).frames + 1 ≤ (stand_of self.old).capacity }
-        ensures { Opened self.new (stand_of self.old) (changed (stand_of self.old).names change (stand_of self.old).env) }
+        requires ready { IsReady self.old }
+        requires inside { ChangesIn (length self.old.bindings.names) change }
+        requires fits { CountsFit (changed self.old.bindings.names change (env_of self.old.bindings)) }
+        requires room { length self.old.frames + 1 ≤ self.old.capacity }
+        ensures { Opened self.old self.new (changed self.old.bindings.names change (env_of self.old.bindings)) }
     {
-        let fasts = self.scope.fasts;
-        let tags = self.scope.tags;
+        let Counts { fasts, tags } = self.counts();
         match change {
             Change::Nothing => {}
             Change::Known { name, number } => self.bind(name, number),
@@ -284,9 +276,9 @@ impl<'p> Position<'p> {
     /// Does a plain statement.
     pub fn act(&mut self, plain: &'p Plain, rest: &'p [Statement]) -> Action<'p>
         requires ready { IsReady self.old }
-        requires there { (line : ℕ) × (tree (stand_of self.old).rest ≡ Does line plain.now (tree rest.now)) }
-        ensures acted { Acted self.new (stand_of self.old) (meant (stand_of self.old).names (stand_of self.new).subscripts result) }
-        ensures inside { NamesIn (length (stand_of self.old).names) (stand_of self.new).subscripts result }
+        requires there { (line : ℕ) × (tree self.old.rest ≡ Does line plain.now (tree rest.now)) }
+        ensures acted { Acted self.old self.new (meant self.old.bindings.names self.new.subscripts result) }
+        ensures inside { NamesIn (length self.old.bindings.names) self.new.subscripts result }
     {
         let action = self.action(plain);
         let change = self.change_of(plain);
@@ -298,7 +290,7 @@ impl<'p> Position<'p> {
     /// Starts the first statement in hand.
     fn start(&mut self, first: &'p Statement, rest: &'p [Statement]) -> Option<Action<'p>>
         requires ready { IsReady self.old }
-        requires there { (stand_of self.old).rest ≡ first.now ∷ rest.now }
+        requires there { self.old.rest ≡ first.now ∷ rest.now }
         ensures { Steps result self.old self.new }
     {
         match &first.form {
@@ -340,31 +332,19 @@ impl<'p> Position<'p> {
         }
     }
 
-    /// Takes a step: to the next action, or on the way to it. Nothing where no action is left.
-    pub fn step(&mut self) -> Step<'p>
-        requires { IsReady self.old }
-        ensures { IsStep result self.old self.new }
-    {
-        let statements = self.rest;
-        if statements.is_empty() {
-            return if self.back() { Step::Skips } else { Step::Ends };
-        }
-        match self.start(&statements[0], &statements[1..]) {
-            Some(action) => Step::Acts(action),
-            None => Step::Skips,
-        }
-    }
-
     /// Goes to the next action. Nothing where no action is left.
     pub fn advance(&mut self) -> Option<Action<'p>>
         requires { IsReady self.old }
         ensures { Advances result self.old self.new }
     {
-        loop {
-            match self.step() {
-                Step::Acts(action) => return Some(action),
-                Step::Ends => return None,
-                Step::Skips => {}
+        'moves: loop {
+            let statements = self.rest();
+            if statements.is_empty() {
+                if !self.back() {
+                    return None;
+                }
+            } else if let Some(action) = self.start(&statements[0], &statements[1..]) {
+                return Some(action);
             }
         }
     }

@@ -18,8 +18,8 @@ use std::marker::Model;
 use walk_actions::{Action, Operand};
 use walk_program::Program;
 
-/// A walk over a module. A clause sees the names of the module, the actions that are left, and the subscripts that stand beside the
-/// last action.
+/// A walk over a module. A clause sees the names of the module, the actions that are left, and the subscripts that
+/// stand beside the last action.
 #[derive(Drop)]
 pub struct Walk<'p> {
     position: Position<'p>,
@@ -30,13 +30,13 @@ impl<'p> Model for Walk<'p> {
 
     ghost Value = { Walked };
 
-    ghost use Rattle.nest_walk.specs.Jobs.{all_actions, jobs_at, stand_of};
+    ghost use Rattle.nest_walk.specs.Jobs.{actions_left};
     ghost use Rattle.nest_walk.specs.Ready.{IsReady};
 
     ghost view = { λ w. record {
-      names = w.position.scope.names.now;
-      left = all_actions (jobs_at (stand_of w.position));
-      subscripts = w.position.subscripts.items;
+      names = w.position.bindings.names;
+      left = actions_left w.position;
+      subscripts = w.position.subscripts;
     } };
 
     ghost invariant = { λ w. IsReady w.position };
@@ -47,51 +47,45 @@ impl<'p> Walk<'p> {
     pub fn names(&self) -> &'p [Name]
         ensures { result.now ≡ self.now.names }
     {
-        self.position.scope.names
+        self.position.names()
     }
 
     /// The subscripts of the last action where it is a raw access, in the order of its memref's dimensions.
     pub fn subscripts(&self) -> &[Operand]
         ensures { result.now ≡ self.now.subscripts }
     {
-        &self.position.subscripts
+        self.position.subscripts()
     }
 
     /// A walk over a program for these index arguments. It takes all the memory that the walk needs.
     ///
     /// # Errors
     ///
-    /// Out of memory, and so too where the elements of the arguments or the frames of the walk leave the machine's numbers. No
-    /// valid module has so many.
+    /// Out of memory, and so too where the elements of the arguments or the frames of the walk leave the machine's
+    /// numbers. No valid module has so many.
     pub fn new(alloc: Global, program: &'p Program, symbols: &[i64]) -> Result<Walk<'p>, AllocError>
         requires made { WellMade program.now }
-        requires safe { SafeNest (nest_of program.now.names (tree program.now.body)) (start_env (arguments_of program.now.names program.now.arguments) symbols.now) }
+        requires safe { SafeNest (nest_of program.now.names (tree program.now.body))
+            (start_env (arguments_of program.now.names program.now.arguments) symbols.now) }
         ensures { IfOk result (Begins program.entry.now symbols.now) }
     {
         let Some(room) = room_needed(program.body.as_slice()) else {
             return Err(AllocError);
         };
-        let width = program.width as usize;
-        let scope = placed(
+        let environment = placed(
             alloc,
             program.names.as_slice(),
             program.arguments.as_slice(),
             symbols,
         )?;
+        let width = program.width as usize;
         Ok(Walk {
-            position: Position {
-                frames: Vec::with_capacity(alloc, room)?,
-                rest: program.body.as_slice(),
-                scope,
-                numbers: Vec::with_capacity(alloc, width)?,
-                subscripts: Vec::with_capacity(alloc, width)?,
-            },
+            position: Position::new(alloc, program.body.as_slice(), environment, width, room)?,
         })
     }
 
-    /// The next action, and nothing where none is left. It takes no memory. Where the action is a raw access, its subscripts are
-    /// those of `subscripts` then.
-    #[tactic(auto, unfolding(crate::specs::Jobs::stand_of))]
+    /// The next action, and nothing where none is left. It takes no memory. Where the action is a raw access, its
+    /// subscripts are those of `subscripts` then.
     pub fn next(&mut self) -> Option<Action<'p>>
         ensures { Next result self.old self.new }
     {

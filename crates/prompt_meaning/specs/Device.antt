@@ -31,12 +31,12 @@ abbrev pub bytes_of : Element → List ℕ → ℕ
 bytes_of element sizes = product sizes * element_bytes element
 
 -- a half of a table of halves changed
-unfoldable pub put_half : (ℕ → ℕ → List ℤ) → ℕ → ℕ → List ℤ → ℕ → ℕ → List ℤ
-put_half halves number half cells n h = if nat_eq number n && nat_eq half h then cells else halves n h
+unfoldable pub put_half : {A : Type 0} → (ℕ → ℕ → A) → ℕ → ℕ → A → ℕ → ℕ → A
+put_half halves number half new n h = if nat_eq number n && nat_eq half h then new else halves n h
 
 -- all halves of one memref changed
-unfoldable pub put_halves : (ℕ → ℕ → List ℤ) → ℕ → List ℤ → ℕ → ℕ → List ℤ
-put_halves halves number cells n h = if nat_eq number n then cells else halves n h
+unfoldable pub put_halves : {A : Type 0} → (ℕ → ℕ → A) → ℕ → A → ℕ → ℕ → A
+put_halves halves number new n h = if nat_eq number n then new else halves n h
 
 -- a fresh half: each cell holds the filler, taken into the signed range of its element
 abbrev pub fresh_half : ℤ → Element → List ℕ → List ℤ

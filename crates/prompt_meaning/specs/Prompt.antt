@@ -19,7 +19,7 @@ carried y (End s) = End (record y { state = s })
 carried y (Fault k s) = Fault k (record y { state = s })
 
 -- a fault that changes nothing where a test is true
-abbrev pub refused : Bool → FaultKind → Device → Outcome Device → Outcome Device
+abbrev pub refused : {A : Type 0} → Bool → FaultKind → A → Outcome A → Outcome A
 refused true k y go = Fault k y
 refused false k y go = go
 

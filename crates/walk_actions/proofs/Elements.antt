@@ -13,7 +13,7 @@ use Rattle.direct_meaning.specs.Action.{SlowMemref, FastMemref, TagMemref}
 use Rattle.direct_meaning.specs.Static.{Env, results_of, cell_in, within, half_place, slow_at, fast_at, place_at, place_of, tag_at, tag_of}
 use Rattle.valid_laws.specs.Safe.{IsSmall, SafeAccess, SafePlace, IsMemref, IsSlow, IsFast, AreTags, StandsFor}
 use Rattle.walk_program.specs.declared.plain.Subscripts.{Subscripts}
-use Rattle.walk_actions.specs.declared.scope.Scope.{Scope}
+use Rattle.walk_actions.specs.Bindings.{Bindings}
 use Rattle.walk_actions.specs.Looked.{env_of}
 use Rattle.walk_actions.specs.Values.{dims_of, syms_of, value_in, use_of, HasValue}
 use Rattle.walk_actions.proofs.Values.{result_at, results_are, room_is}
@@ -25,7 +25,7 @@ each_valued e at (x ∷ es) p q =
     (each_valued e at es (All-tail (Evaluable (dims_of e at) (syms_of e at)) x es p) (All-tail IsSmall (value_in e at x) (map (value_in e at) es) q))
 
 -- each result has its value
-pub all_valued : (s : Scope) (at : Subscripts) → SafeAccess (env_of s) (use_of s at) → All (HasValue (env_of s) (use_of s at)) at.map.results
+pub all_valued : (s : Bindings) (at : Subscripts) → SafeAccess (env_of s) (use_of s at) → All (HasValue (env_of s) (use_of s at)) at.map.results
 unfolding results_of
 all_valued s at safe = each_valued (env_of s) (use_of s at) at.map.results safe.evaluable safe.small
 

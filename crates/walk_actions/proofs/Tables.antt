@@ -13,8 +13,9 @@ use Rattle.direct_meaning.specs.Action as meaning
 use Rattle.direct_meaning.specs.Static.{number, numbers}
 use Rattle.direct_meaning.specs.Memory.{empty_env}
 use Rattle.walk_actions.specs.declared.action.Home.{Home}
-use Rattle.walk_actions.specs.declared.scope.Scope.{Scope}
-use Rattle.walk_actions.specs.Looked.{looked, env_of, homes_meant, with_known, with_home, IsTable, numbers_at}
+use Rattle.walk_actions.specs.Bindings.{Bindings}
+use Rattle.walk_actions.specs.Bindings.{HasEntries}
+use Rattle.walk_actions.specs.Looked.{looked, env_of, homes_meant, with_known, with_home, numbers_at}
 
 distinct_tail : (m : Name) (ms : List Name) → AreDistinct (m ∷ ms) → AreDistinct ms
 distinct_tail m ms d j k p q e = let h : suc j ≡ suc k = d (suc j) (suc k) (omega (arith, p)) (omega (arith, q)) e in omega (arith, h)
@@ -74,16 +75,16 @@ looked_none {A = A} (m ∷ ms) (suc count) n = by_test (same_name m n) refl (loo
     by_test true e more = rw e refl
     by_test false e more = rw e more
 
-pub known_at : (s : Scope) (k : ℕ) → IsTable s → k < length s.names.now → (env_of s).known (name_at s.names.now k) ≡ get_or s.known.items k None
-known_at s k t h = looked_at s.names.now s.known.items k t.distinct t.known h
+pub known_at : (s : Bindings) (k : ℕ) → HasEntries s → k < length s.names → (env_of s).known (name_at s.names k) ≡ get_or s.known k None
+known_at s k t h = looked_at s.names s.known k t.distinct t.known h
 
-pub home_at : (s : Scope) (k : ℕ) → IsTable s → k < length s.names.now → (env_of s).home (name_at s.names.now k) ≡ homes_meant (get_or s.homes.items k None)
-home_at s k t h = ap homes_meant (looked_at s.names.now s.homes.items k t.distinct t.homes h)
+pub home_at : (s : Bindings) (k : ℕ) → HasEntries s → k < length s.names → (env_of s).home (name_at s.names k) ≡ homes_meant (get_or s.homes k None)
+home_at s k t h = ap homes_meant (looked_at s.names s.homes k t.distinct t.homes h)
 
-pub empty_is : (s : Scope) (n m : ℕ) → s.known.items ≡ replicate n None → s.homes.items ≡ replicate m None → s.fasts ≡ 0 → s.tags ≡ 0 → env_of s ≡ empty_env
+pub empty_is : (s : Bindings) (n m : ℕ) → s.known ≡ replicate n None → s.homes ≡ replicate m None → s.fasts ≡ 0 → s.tags ≡ 0 → env_of s ≡ empty_env
 empty_is s n m p q f t = λ i. record {
-  known = (ap (looked s.names.now) p ∙ fun_ext (λ x. looked_none s.names.now n x)) i;
-  home = fun_ext (λ x. ap (λ entries. homes_meant (looked s.names.now entries x)) q ∙ ap homes_meant (looked_none s.names.now m x)) i;
+  known = (ap (looked s.names) p ∙ fun_ext (λ x. looked_none s.names n x)) i;
+  home = fun_ext (λ x. ap (λ entries. homes_meant (looked s.names entries x)) q ∙ ap homes_meant (looked_none s.names m x)) i;
   fasts = f i;
   tags = t i;
 }
@@ -91,30 +92,30 @@ empty_is s n m p q f t = λ i. record {
 pub none_more : {A : Type 0} (n : ℕ) → replicate n (none_of A) ++ None ∷ [] ≡ replicate (n + 1) (none_of A)
 none_more {A = A} n = replicate-append-replicate n 1 (none_of A)
 
-pub numbers_none : (s : Scope) → numbers_at s [] ≡ []
+pub numbers_none : (s : Bindings) → numbers_at s [] ≡ []
 unfolding numbers_at
 numbers_none s = refl
 
-pub numbers_more : (s : Scope) (ks : List ℕ) (i : ℕ) → i < length ks → numbers_at s (take i ks) ++ number ((env_of s).known (name_at s.names.now (get_or ks i 0))) ∷ [] ≡ numbers_at s (take (i + 1) ks)
+pub numbers_more : (s : Bindings) (ks : List ℕ) (i : ℕ) → i < length ks → numbers_at s (take i ks) ++ number ((env_of s).known (name_at s.names (get_or ks i 0))) ∷ [] ≡ numbers_at s (take (i + 1) ks)
 unfolding numbers_at
-numbers_more s ks i h = sym (map_more (λ k. number ((env_of s).known (name_at s.names.now k))) ks i 0 h)
+numbers_more s ks i h = sym (map_more (λ k. number ((env_of s).known (name_at s.names k))) ks i 0 h)
 
-pub numbers_all : (s : Scope) (ks : List ℕ) → numbers_at s (take (length ks) ks) ≡ numbers (env_of s) (names_at s.names.now ks)
+pub numbers_all : (s : Bindings) (ks : List ℕ) → numbers_at s (take (length ks) ks) ≡ numbers (env_of s) (names_at s.names ks)
 unfolding numbers_at
-numbers_all s ks = ap (map (λ k. number ((env_of s).known (name_at s.names.now k)))) (take_all (length ks) ks (omega arith)) ∙ sym (map-map (λ n. number ((env_of s).known n)) (name_at s.names.now) ks)
+numbers_all s ks = ap (map (λ k. number ((env_of s).known (name_at s.names k)))) (take_all (length ks) ks (omega arith)) ∙ sym (map-map (λ n. number ((env_of s).known n)) (name_at s.names) ks)
 
-pub numbers_length : (s : Scope) (ks : List ℕ) → length (numbers_at s ks) ≡ length ks
+pub numbers_length : (s : Bindings) (ks : List ℕ) → length (numbers_at s ks) ≡ length ks
 unfolding numbers_at
-numbers_length s ks = length-map ks (λ k. number ((env_of s).known (name_at s.names.now k)))
+numbers_length s ks = length-map ks (λ k. number ((env_of s).known (name_at s.names k)))
 
-table_kept : (s t : Scope) → IsTable s → t.names.now ≡ s.names.now → length t.known.items ≡ length s.known.items → length t.homes.items ≡ length s.homes.items → IsTable t
+table_kept : (s t : Bindings) → HasEntries s → t.names ≡ s.names → length t.known ≡ length s.known → length t.homes ≡ length s.homes → HasEntries t
 table_kept s t h n k m = record { distinct = subst AreDistinct (sym n) h.distinct; known = k ∙ h.known ∙ ap length (sym n); homes = m ∙ h.homes ∙ ap length (sym n) }
 
 -- a number written down
-pub known_set : (s t : Scope) (k : ℕ) (z : Option ℤ) → IsTable s → k < length s.names.now → t.names.now ≡ s.names.now → t.known.items ≡ set s.known.items k z → t.homes.items ≡ s.homes.items → t.fasts ≡ s.fasts → t.tags ≡ s.tags
-    → env_of t ≡ with_known (name_at s.names.now k) z (env_of s)
+pub known_set : (s t : Bindings) (k : ℕ) (z : Option ℤ) → HasEntries s → k < length s.names → t.names ≡ s.names → t.known ≡ set s.known k z → t.homes ≡ s.homes → t.fasts ≡ s.fasts → t.tags ≡ s.tags
+    → env_of t ≡ with_known (name_at s.names k) z (env_of s)
 known_set s t k z h l n e m f g = λ i. record {
-  known = ((λ j. looked (n j) (e j)) ∙ looked_set s.names.now s.known.items k z h.distinct h.known l) i;
+  known = ((λ j. looked (n j) (e j)) ∙ looked_set s.names s.known k z h.distinct h.known l) i;
   home = λ x. homes_meant (looked (n i) (m i) x);
   fasts = f i;
   tags = g i;
@@ -129,11 +130,11 @@ put_meant table n home = fun_ext (λ x. by_test x (same_name n x) refl)
     by_test x false e = rw e refl
 
 -- a memref written down
-pub home_set : (s t : Scope) (k : ℕ) (home : Option Home) → IsTable s → k < length s.names.now → t.names.now ≡ s.names.now → t.homes.items ≡ set s.homes.items k home → t.known.items ≡ s.known.items → t.fasts ≡ s.fasts → t.tags ≡ s.tags
-    → env_of t ≡ with_home (name_at s.names.now k) (homes_meant home) (env_of s)
+pub home_set : (s t : Bindings) (k : ℕ) (home : Option Home) → HasEntries s → k < length s.names → t.names ≡ s.names → t.homes ≡ set s.homes k home → t.known ≡ s.known → t.fasts ≡ s.fasts → t.tags ≡ s.tags
+    → env_of t ≡ with_home (name_at s.names k) (homes_meant home) (env_of s)
 home_set s t k home h l n e m f g = λ i. record {
   known = looked (n i) (m i);
-  home = ((λ j x. homes_meant (looked (n j) (e j) x)) ∙ ap {B = Name → Option meaning.Home} (λ (table : Name → Option Home) x. homes_meant (table x)) (looked_set s.names.now s.homes.items k home h.distinct h.homes l) ∙ put_meant (looked s.names.now s.homes.items) (name_at s.names.now k) home) i;
+  home = ((λ j x. homes_meant (looked (n j) (e j) x)) ∙ ap {B = Name → Option meaning.Home} (λ (table : Name → Option Home) x. homes_meant (table x)) (looked_set s.names s.homes k home h.distinct h.homes l) ∙ put_meant (looked s.names s.homes) (name_at s.names k) home) i;
   fasts = f i;
   tags = g i;
 }

@@ -21,7 +21,7 @@ use Rattle.walk_program.specs.declared.plain.Subscripts.{Subscripts}
 use Rattle.walk_program.specs.Names.{name_at}
 use Rattle.walk_program.specs.Numbered.{Operands}
 use Rattle.walk_program.specs.Reading.{names_at}
-use Rattle.walk_actions.specs.declared.scope.Scope.{Scope}
+use Rattle.walk_actions.specs.Bindings.{Bindings}
 use Rattle.walk_actions.specs.Looked.{env_of}
 use Rattle.walk_actions.specs.Values.{dims_of, syms_of, value_in, use_of, HasValue, HasRoom}
 
@@ -32,18 +32,18 @@ leaves-Dim dims syms n = ap (fold-Expr Bool (leaves_step dims syms)) (sym (rolls
 pub get_or-mapped : {A B : Type 0} (f : A → B) (xs : List A) (k : ℕ) (d : A) (z : B) → k < length xs → get_or (map f xs) k z ≡ f (get_or xs k d)
 get_or-mapped f xs k d z h = get_or_default (map f xs) k z (f d) (omega (arith, length-map xs f, h)) ∙ get_or-map f xs k d
 
-numbers_length : (e : Env) (s : Scope) (ks : List ℕ) → length (numbers e (names_at s.names.now ks)) ≡ length ks
-numbers_length e s ks = length-map (names_at s.names.now ks) (λ n. number (e.known n)) ∙ length-map ks (name_at s.names.now)
+numbers_length : (e : Env) (s : Bindings) (ks : List ℕ) → length (numbers e (names_at s.names ks)) ≡ length ks
+numbers_length e s ks = length-map (names_at s.names ks) (λ n. number (e.known n)) ∙ length-map ks (name_at s.names)
 
-below_dims : (s : Scope) (at : Subscripts) (n : ℕ) (expr : Expr) → expr ≡ Dim n → HasValue (env_of s) (use_of s at) expr → n < length (dims_of (env_of s) (use_of s at))
+below_dims : (s : Bindings) (at : Subscripts) (n : ℕ) (expr : Expr) → expr ≡ Dim n → HasValue (env_of s) (use_of s at) expr → n < length (dims_of (env_of s) (use_of s at))
 below_dims s at n expr is h = ltb-true n (length (dims_of (env_of s) (use_of s at))) (sym (leaves-Dim _ _ n) ∙ ap (has_leaves_below _ _) (sym is) ∙ h.evaluable.leaves)
 
 -- a dimension's place is that of one of the operands
-pub dim_below : (s : Scope) (at : Subscripts) (n : ℕ) (expr : Expr) → expr ≡ Dim n → HasValue (env_of s) (use_of s at) expr → n < length at.operands
+pub dim_below : (s : Bindings) (at : Subscripts) (n : ℕ) (expr : Expr) → expr ≡ Dim n → HasValue (env_of s) (use_of s at) expr → n < length at.operands
 dim_below s at n expr is h = omega (arith, length-take at.map.dims (numbers (env_of s) (use_of s at).operands), numbers_length (env_of s) s at.operands, below_dims s at n expr is h)
 
-pub dim_value : (s : Scope) (at : Subscripts) (n : ℕ) (expr : Expr) → expr ≡ Dim n → HasValue (env_of s) (use_of s at) expr
-    → number ((env_of s).known (name_at s.names.now (get_or at.operands n 0))) ≡ value_in (env_of s) (use_of s at) expr
+pub dim_value : (s : Bindings) (at : Subscripts) (n : ℕ) (expr : Expr) → expr ≡ Dim n → HasValue (env_of s) (use_of s at) expr
+    → number ((env_of s).known (name_at s.names (get_or at.operands n 0))) ≡ value_in (env_of s) (use_of s at) expr
 dim_value s at n expr is h =
     let e = env_of s in
     let names = (use_of s at).operands in
@@ -53,25 +53,25 @@ dim_value s at n expr is h =
     sym (ap (value_in e (use_of s at)) is
     ∙ value-Dim (dims_of e (use_of s at)) (syms_of e (use_of s at)) n
     ∙ get_or-take at.map.dims (numbers e names) n (pos 0) j
-    ∙ get_or-mapped (λ m. number (e.known m)) names n (name_at s.names.now 0) (pos 0) (omega (arith, l, length-map at.operands (name_at s.names.now)))
-    ∙ ap (λ m. number (e.known m)) (get_or-mapped (name_at s.names.now) at.operands n 0 (name_at s.names.now 0) l))
+    ∙ get_or-mapped (λ m. number (e.known m)) names n (name_at s.names 0) (pos 0) (omega (arith, l, length-map at.operands (name_at s.names)))
+    ∙ ap (λ m. number (e.known m)) (get_or-mapped (name_at s.names) at.operands n 0 (name_at s.names 0) l))
 
-pub dims_fit : (s : Scope) (cap : ℕ) (at : Subscripts) (xs : List ℤ) → HasRoom s cap at → xs ≡ numbers (env_of s) (names_at s.names.now at.operands) → at.map.dims ≤ length xs
+pub dims_fit : (s : Bindings) (cap : ℕ) (at : Subscripts) (xs : List ℤ) → HasRoom s cap at → xs ≡ numbers (env_of s) (names_at s.names at.operands) → at.map.dims ≤ length xs
 dims_fit s cap at xs h e = omega (arith, h.dims, ap length e, numbers_length (env_of s) s at.operands)
 
 pub ruleset evaluations = (dims_fit)
 
 -- the first operands of a set are those of its dimensions
-pub set_dims : (s : Scope) (set : Set) (ks : List ℕ) (xs : List ℤ) → SafeCondition (env_of s) set (names_at s.names.now ks) → xs ≡ numbers (env_of s) (names_at s.names.now ks) → set.dims ≤ length xs
-set_dims s set ks xs h e = omega (arith, h.count, ap length e, length-map (names_at s.names.now ks) (λ n. number ((env_of s).known n)))
+pub set_dims : (s : Bindings) (set : Set) (ks : List ℕ) (xs : List ℤ) → SafeCondition (env_of s) set (names_at s.names ks) → xs ≡ numbers (env_of s) (names_at s.names ks) → set.dims ≤ length xs
+set_dims s set ks xs h e = omega (arith, h.count, ap length e, length-map (names_at s.names ks) (λ n. number ((env_of s).known n)))
 
 -- ---- a map's results, one by one
 
-pub room_is : (s : Scope) (cap : ℕ) (at : Subscripts) → Operands (length s.names.now) cap at.operands → SafeAccess (env_of s) (use_of s at) → HasRoom s cap at
-room_is s cap at h safe = record { operands = h; dims = omega (arith, safe.count, length-map at.operands (name_at s.names.now)) }
+pub room_is : (s : Bindings) (cap : ℕ) (at : Subscripts) → Operands (length s.names) cap at.operands → SafeAccess (env_of s) (use_of s at) → HasRoom s cap at
+room_is s cap at h safe = record { operands = h; dims = omega (arith, safe.count, length-map at.operands (name_at s.names)) }
 
 -- each result has its value
-pub result_at : (s : Scope) (at : Subscripts) (k : ℕ) (expr : Expr) → SafeAccess (env_of s) (use_of s at) → k < length at.map.results → expr ≡ get_or at.map.results k expr → HasValue (env_of s) (use_of s at) expr
+pub result_at : (s : Bindings) (at : Subscripts) (k : ℕ) (expr : Expr) → SafeAccess (env_of s) (use_of s at) → k < length at.map.results → expr ≡ get_or at.map.results k expr → HasValue (env_of s) (use_of s at) expr
 unfolding results_of
 result_at s at k expr safe h is =
     let e = env_of s in
@@ -104,12 +104,12 @@ best_more best a f es k x h is =
     sym (ap (fold best a) (map_more f es k x h) ∙ fold_push best a (map f (take k es)) (f (get_or es k x)) ∙ ap (λ y. best (fold best a (map f (take k es))) (f y)) (sym is))
 
 -- the value of an expression behind the first is a result's too
-pub rest_at : (s : Scope) (at : Subscripts) (rest : List Expr) (k : ℕ) (expr : Expr) → SafeAccess (env_of s) (use_of s at) → rest ≡ drop 1 at.map.results → k < length rest → expr ≡ get_or rest k expr → HasValue (env_of s) (use_of s at) expr
+pub rest_at : (s : Bindings) (at : Subscripts) (rest : List Expr) (k : ℕ) (expr : Expr) → SafeAccess (env_of s) (use_of s at) → rest ≡ drop 1 at.map.results → k < length rest → expr ≡ get_or rest k expr → HasValue (env_of s) (use_of s at) expr
 rest_at s at rest k expr safe e h is =
     let l : k + 1 < length at.map.results = omega (arith, h, ap length e, length-drop 1 at.map.results) in
     result_at s at (k + 1) expr safe l (is ∙ ap (λ xs. get_or xs k expr) e ∙ get_or-drop 1 at.map.results k expr ∙ ap (λ i. get_or at.map.results i expr) (omega arith))
 
-pub room_stays : (s : Scope) (cap new : ℕ) (at : Subscripts) → HasRoom s cap at → new ≡ cap → HasRoom s new at
+pub room_stays : (s : Bindings) (cap new : ℕ) (at : Subscripts) → HasRoom s cap at → new ≡ cap → HasRoom s new at
 room_stays s cap new at h e = record { operands = record { below = h.operands.below; short = omega (arith, h.operands.short, e) }; dims = h.dims }
 
 -- the rest of a list from its second place on

@@ -12,8 +12,14 @@ use Rattle.walk_actions.specs.Looked.{with_known}
 abbrev pub changed : List Name → Change → Env → Env
 changed names Nothing e = e
 changed names (Known n number) e = with_known (name_at names n) number e
-changed names (Fast n) e = record e { home = put e.home (name_at names n) (Some (FastMemref e.fasts)); fasts = suc e.fasts }
-changed names (Tags n count) e = record e { home = put e.home (name_at names n) (Some (TagMemref e.tags)); tags = e.tags + count }
+changed names (Fast n) e = record e {
+  home = put e.home (name_at names n) (Some (FastMemref e.fasts));
+  fasts = suc e.fasts;
+}
+changed names (Tags n count) e = record e {
+  home = put e.home (name_at names n) (Some (TagMemref e.tags));
+  tags = e.tags + count;
+}
 
 -- the name that changes is one of so many
 abbrev pub ChangesIn : ℕ → Change → Type 0

@@ -1,13 +1,13 @@
 -- What tables by number say of names.
-use Rattle.std.specs.Prelude.{◌≡◌, ℕ, ℤ, map, List, [], ◌∷◌, length, Option, Some, None, if◌then◌else◌}
+use Rattle.std.specs.Prelude.{ℕ, ℤ, map, List, [], ◌∷◌, Option, Some, None, if◌then◌else◌}
 use Rattle.affine_ast.specs.declared.name.Name.{Name}
 use Rattle.affine_ast.specs.Names.{same_name, put}
 use Rattle.direct_meaning.specs.Action as meaning
 use Rattle.direct_meaning.specs.Static.{Env, number}
-use Rattle.walk_program.specs.Names.{name_at, AreDistinct}
+use Rattle.walk_program.specs.Names.{name_at}
 use Rattle.walk_actions.specs.declared.action.Home.{Home}
 use Rattle.walk_actions.specs.declared.action.Home.TheVariants.{Slow, Fast, Tags}
-use Rattle.walk_actions.specs.declared.scope.Scope.{Scope}
+use Rattle.walk_actions.specs.Bindings.{Bindings}
 
 -- the entry of a name, where the entries stand in the order of the names; none where the name isn't among them
 unfoldable pub looked : {A : Type 0} → List Name → List (Option A) → Name → Option A
@@ -24,24 +24,26 @@ abbrev pub homes_meant : Option Home → Option meaning.Home
 homes_meant None = None
 homes_meant (Some home) = Some (home_meant home)
 
--- what a scope says of names
-abbrev pub env_of : Scope → Env
-env_of s = record {
-  known = looked s.names.now s.known.items;
-  home = λ n. homes_meant (looked s.names.now s.homes.items n);
-  fasts = s.fasts;
-  tags = s.tags;
+-- what bindings by number say of names
+abbrev pub env_of : Bindings → Env
+env_of b = record {
+  known = looked b.names b.known;
+  home = λ n. homes_meant (looked b.names b.homes n);
+  fasts = b.fasts;
+  tags = b.tags;
 }
 
--- each name has one place in the tables
-pub record IsTable (s : Scope) : Type 0 where
-  pub distinct : AreDistinct s.names.now
-  pub known : length s.known.items ≡ length s.names.now
-  pub homes : length s.homes.items ≡ length s.names.now
+-- the number that a name has, by the name's number
+abbrev pub known_of : Bindings → ℕ → Option ℤ
+known_of b k = (env_of b).known (name_at b.names k)
+
+-- the memref that a name stands for, by the name's number
+abbrev pub home_of : Bindings → ℕ → Option meaning.Home
+home_of b k = (env_of b).home (name_at b.names k)
 
 -- the numbers of names, by the names' numbers
-unfoldable pub numbers_at : Scope → List ℕ → List ℤ
-numbers_at s ks = map (λ k. number ((env_of s).known (name_at s.names.now k))) ks
+unfoldable pub numbers_at : Bindings → List ℕ → List ℤ
+numbers_at b ks = map (λ k. number ((env_of b).known (name_at b.names k))) ks
 
 -- a name with a number, or none
 abbrev pub with_known : Name → Option ℤ → Env → Env

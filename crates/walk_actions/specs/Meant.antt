@@ -1,11 +1,14 @@
 -- What an action by number means: the numbers of names stand for the names.
-use Rattle.std.specs.Prelude.{ℕ, ◌<◌, List, map, All}
+use Rattle.std.specs.Prelude.{◌≡◌, ℕ, ◌<◌, List, map, All}
 use Rattle.affine_ast.specs.declared.name.Name.{Name}
 use Rattle.affine_ast.specs.Sizes.{scalar_bits}
 use Rattle.direct_meaning.specs.Action as meaning
 use Rattle.walk_program.specs.Names.{name_at}
 use Rattle.walk_actions.specs.declared.action.Action.{Action}
-use Rattle.walk_actions.specs.declared.action.Action.TheVariants.{Known, Sets, Loads, Stores, RawLoads, RawStores, Operates, Converts, Allocates, Releases, AllocatesTags, ReleasesTags, Starts, Waits, Faults, Returns}
+use Rattle.walk_actions.specs.declared.action.Action.TheVariants.{Known, Sets, Loads, Stores, RawLoads, RawStores}
+use Rattle.walk_actions.specs.declared.action.Action.TheVariants.{Operates, Converts, Allocates, Releases}
+use Rattle.walk_actions.specs.declared.action.Action.TheVariants.{AllocatesTags, ReleasesTags, Starts, Waits, Faults}
+use Rattle.walk_actions.specs.declared.action.Action.TheVariants.{Returns}
 use Rattle.walk_actions.specs.declared.action.Operand.{Operand}
 use Rattle.walk_actions.specs.declared.action.Operand.TheVariants.{Number, Register}
 use Rattle.walk_actions.specs.declared.action.Place.{Place}
@@ -27,10 +30,14 @@ meant names subscripts Known = meaning.Known
 meant names subscripts (Sets r z) = meaning.Sets (name_at names r) z
 meant names subscripts (Loads r place) = meaning.Loads (name_at names r) (place_meant place)
 meant names subscripts (Stores x place) = meaning.Stores (operand_meant names x) (place_meant place)
-meant names subscripts (RawLoads r home sizes) = meaning.RawLoads (name_at names r) (homes_meant home) sizes.now (map (operand_meant names) subscripts)
-meant names subscripts (RawStores x home sizes) = meaning.RawStores (operand_meant names x) (homes_meant home) sizes.now (map (operand_meant names) subscripts)
-meant names subscripts (Operates r op ty a b) = meaning.Operates (name_at names r) op (scalar_bits ty) (operand_meant names a) (operand_meant names b)
-meant names subscripts (Converts r kind from to x) = meaning.Converts (name_at names r) kind (scalar_bits from) (scalar_bits to) (operand_meant names x)
+meant names subscripts (RawLoads r home sizes) = meaning.RawLoads (name_at names r) (homes_meant home) sizes.now
+    (map (operand_meant names) subscripts)
+meant names subscripts (RawStores x home sizes) = meaning.RawStores (operand_meant names x)
+    (homes_meant home) sizes.now (map (operand_meant names) subscripts)
+meant names subscripts (Operates r op ty a b) = meaning.Operates (name_at names r) op (scalar_bits ty)
+    (operand_meant names a) (operand_meant names b)
+meant names subscripts (Converts r kind from to x) = meaning.Converts (name_at names r) kind (scalar_bits from)
+    (scalar_bits to) (operand_meant names x)
 meant names subscripts (Allocates number element sizes) = meaning.Allocates number element sizes.now
 meant names subscripts (Releases number element sizes) = meaning.Releases number element sizes.now
 meant names subscripts (AllocatesTags first count) = meaning.AllocatesTags first count
@@ -59,3 +66,7 @@ NamesIn count subscripts action = Unit {0}
 -- an action that names no name
 abbrev pub NamesNone : Action → Type 0
 NamesNone action = (count : ℕ) (subscripts : List Operand) → NamesIn count subscripts action
+
+-- an action that means this, whatever the names are
+abbrev pub MeansAlone : Action → meaning.Action → Type 0
+MeansAlone action m = (names : List Name) (subscripts : List Operand) → meant names subscripts action ≡ m

@@ -7,7 +7,7 @@ use Rattle.direct_meaning.specs.Actions.{Layout}
 use Rattle.valid_laws.specs.Safe.{SafePlace}
 use Rattle.walk_program.specs.Names.{name_at}
 use Rattle.walk_program.specs.Numbered.{Operands}
-use Rattle.walk_actions.specs.declared.scope.Scope.{Scope}
+use Rattle.walk_actions.specs.Bindings.{Bindings}
 use Rattle.walk_actions.specs.declared.transfers.Chunks.{Chunks}
 use Rattle.walk_actions.specs.declared.transfers.End.{End}
 use Rattle.walk_actions.specs.Looked.{env_of}
@@ -27,19 +27,30 @@ pub record AreChunks (c : Chunks) : Type 0 where
 -- a transfer of this layout
 abbrev pub transfer_at : Bool → ℕ → ℕ → ℕ → Chunks → ℕ → ℕ → ℕ → Transfer
 transfer_at incoming tag memref base c fast half offset =
-    record { incoming = incoming; tag = tag; memref = memref; base = base; stride = c.stride; chunk = c.chunk; count = c.count; fast = fast; half = half; offset = offset }
+    record {
+      incoming = incoming;
+      tag = tag;
+      memref = memref;
+      base = base;
+      stride = c.stride;
+      chunk = c.chunk;
+      count = c.count;
+      fast = fast;
+      half = half;
+      offset = offset;
+    }
 
 -- an end that may be evaluated, with room for the operands of its subscripts
-pub record IsEnd (s : Scope) (room : ℕ) (end : End) : Type 0 where
-  pub memref : end.memref < length s.names.now
-  pub operands : Operands (length s.names.now) room end.at.now.operands
-  pub safe : SafePlace (env_of s) (name_at s.names.now end.memref) (use_of s end.at.now) end.ty.now
+pub record IsEnd (s : Bindings) (room : ℕ) (end : End) : Type 0 where
+  pub memref : end.memref < length s.names
+  pub operands : Operands (length s.names) room end.at.now.operands
+  pub safe : SafePlace (env_of s) (name_at s.names end.memref) (use_of s end.at.now) end.ty.now
 
-abbrev pub home_at : Scope → End → Option Home
-home_at s end = (env_of s).home (name_at s.names.now end.memref)
+abbrev pub home_at : Bindings → End → Option Home
+home_at s end = (env_of s).home (name_at s.names end.memref)
 
-abbrev pub place_at_end : Scope → End → Place
-place_at_end s end = place_of (env_of s) (name_at s.names.now end.memref) (use_of s end.at.now) end.ty.now
+abbrev pub place_at_end : Bindings → End → Place
+place_at_end s end = place_of (env_of s) (name_at s.names end.memref) (use_of s end.at.now) end.ty.now
 
-abbrev pub tag_at_end : Scope → End → Option ℕ
-tag_at_end s end = tag_of (env_of s) (name_at s.names.now end.memref) (use_of s end.at.now) end.ty.now
+abbrev pub tag_at_end : Bindings → End → Option ℕ
+tag_at_end s end = tag_of (env_of s) (name_at s.names end.memref) (use_of s end.at.now) end.ty.now

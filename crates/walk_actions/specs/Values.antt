@@ -9,7 +9,7 @@ use Rattle.valid_laws.specs.Safe.{IsSmall}
 use Rattle.walk_program.specs.declared.plain.Subscripts.{Subscripts}
 use Rattle.walk_program.specs.Numbered.{Operands}
 use Rattle.walk_program.specs.Reading.{access_of}
-use Rattle.walk_actions.specs.declared.scope.Scope.{Scope}
+use Rattle.walk_actions.specs.Bindings.{Bindings}
 
 abbrev pub dims_of : Env → Access → List ℤ
 dims_of e at = take at.map.dims (numbers e at.operands)
@@ -22,8 +22,8 @@ abbrev pub value_in : Env → Access → Expr → ℤ
 value_in e at expr = value (dims_of e at) (syms_of e at) expr
 
 -- a use by number, with the names for its numbers
-abbrev pub use_of : Scope → Subscripts → Access
-use_of s at = access_of s.names.now at
+abbrev pub use_of : Bindings → Subscripts → Access
+use_of s at = access_of s.names at
 
 -- it may be evaluated at the numbers of the operands, with a small value
 pub record HasValue (e : Env) (at : Access) (expr : Expr) : Type 0 where
@@ -31,6 +31,6 @@ pub record HasValue (e : Env) (at : Access) (expr : Expr) : Type 0 where
   pub small : IsSmall (value_in e at expr)
 
 -- each operand is the number of a name, with room for their numbers, and the first ones are those of the dimensions
-pub record HasRoom (s : Scope) (room : ℕ) (at : Subscripts) : Type 0 where
-  pub operands : Operands (length s.names.now) room at.operands
+pub record HasRoom (s : Bindings) (room : ℕ) (at : Subscripts) : Type 0 where
+  pub operands : Operands (length s.names) room at.operands
   pub dims : at.map.dims ≤ length at.operands

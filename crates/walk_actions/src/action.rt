@@ -33,11 +33,12 @@ pub enum Operand {
     Register(u32),
 }
 
-/// One execution of a statement other than a loop or a condition, with all that is known before the run put in. Results and
-/// registers are numbers of names.
+/// One execution of a statement other than a loop or a condition, with all that is known before the run put in. Results
+/// and registers are numbers of names.
 #[derive(Clone, Copy)]
 pub enum Action<'p> {
-    /// A constant of type index, or a result of `affine.apply`, `min` or `max`: where it is used its value stands already.
+    /// A constant of type index, or a result of `affine.apply`, `min` or `max`: where it is used its value stands
+    /// already.
     Known,
     /// A constant of an integer type.
     Sets {

@@ -11,10 +11,10 @@ ghost use Rattle.valid_laws.specs.Safe.{SafePlain, IsMemref, new_home};
 ghost use Rattle.walk_program.specs.Names.{name_at};
 ghost use Rattle.walk_program.specs.Numbered.{PlainFits};
 ghost use Rattle.walk_program.specs.Reading.{plain_of};
-ghost use Rattle.walk_actions.specs.Looked.{env_of, IsTable};
+ghost use Rattle.walk_actions.specs.Looked.{env_of};
 ghost use Rattle.walk_actions.specs.Changed.{changed, ChangesIn};
 
-use crate::scope::Scope;
+use crate::environment::Environment;
 use crate::statements::elements;
 use affine_ast::{MemrefType, Scalar};
 use walk_program::Plain;
@@ -42,7 +42,8 @@ fn data(name: u32) -> Change
 #[tactic(auto, using(crate::proofs::Elements::few_memref))]
 fn allocated(name: u32, ty: &MemrefType) -> Change
     requires { (home : Option TheHome) × IsMemref home ty.now }
-    ensures value { (names : List TheName) (e : Env) → changed names result e ≡ after_alloc (name_at names name) ty.now e }
+    ensures value { (names : List TheName) (e : Env) → changed names result e
+        ≡ after_alloc (name_at names name) ty.now e }
     ensures inside { (count : ℕ) → name < count → ChangesIn count result }
 {
     if ty.space == 1 {
@@ -57,7 +58,8 @@ fn allocated(name: u32, ty: &MemrefType) -> Change
 
 /// The change of a constant: of index type it is known.
 fn constant(name: u32, value: i64, ty: Scalar) -> Change
-    ensures value { (names : List TheName) (e : Env) → changed names result e ≡ after_constant (name_at names name) value ty e }
+    ensures value { (names : List TheName) (e : Env) → changed names result e
+        ≡ after_constant (name_at names name) value ty e }
     ensures inside { (count : ℕ) → name < count → ChangesIn count result }
 {
     match ty {
@@ -69,15 +71,15 @@ fn constant(name: u32, value: i64, ty: Scalar) -> Change
     }
 }
 
-impl<'p> Scope<'p> {
+impl<'p> Environment<'p> {
     /// What a statement changes of what stands round the next one.
     #[tactic(auto, unfolding(walk_program::specs::Reading::plain_of, direct_meaning::specs::Actions::after_plain))]
     pub fn change(&self, plain: &Plain, room: &mut Vec<i64>) -> Change
-        requires table { IsTable self.now }
-        requires names { PlainFits (length self.now.names.now) (vec_capacity room.old) plain.now }
-        requires safe { SafePlain (env_of self.now) (plain_of self.now.names.now plain.now) }
-        ensures value { changed self.now.names.now result (env_of self.now) ≡ after_plain (plain_of self.now.names.now plain.now) (env_of self.now) }
-        ensures inside { ChangesIn (length self.now.names.now) result }
+        requires names { PlainFits (length self.now.names) (vec_capacity room.old) plain.now }
+        requires safe { SafePlain (env_of self.now) (plain_of self.now.names plain.now) }
+        ensures value { changed self.now.names result (env_of self.now)
+            ≡ after_plain (plain_of self.now.names plain.now) (env_of self.now) }
+        ensures inside { ChangesIn (length self.now.names) result }
         ensures room { vec_capacity room.new ≡ vec_capacity room.old }
     {
         match plain {

@@ -7,12 +7,12 @@ ghost use Rattle.direct_meaning.specs.Static.{within, cell_in, place_of, tag_of,
 ghost use Rattle.valid_laws.specs.Safe.{SafeAccess, SafePlace, IsFast};
 ghost use Rattle.walk_program.specs.Names.{name_at};
 ghost use Rattle.walk_program.specs.Numbered.{Operands};
-ghost use Rattle.walk_actions.specs.Looked.{env_of, IsTable};
+ghost use Rattle.walk_actions.specs.Looked.{env_of};
 ghost use Rattle.walk_actions.specs.Meant.{place_meant};
 ghost use Rattle.walk_actions.specs.Values.{value_in, use_of, HasValue, HasRoom};
 
 use crate::action::{Home, Place};
-use crate::scope::Scope;
+use crate::environment::Environment;
 use affine_ast::MemrefType;
 use affine_expr::Expr;
 use walk_program::Subscripts;
@@ -32,7 +32,7 @@ pub fn within(subscript: i64, size: u32) -> Option<u32>
     Some(subscript as u32)
 }
 
-impl<'p> Scope<'p> {
+impl<'p> Environment<'p> {
     /// The number of an element, row-major; none where a subscript is outside its size.
     #[inline(always)]
     fn cell(
@@ -42,13 +42,13 @@ impl<'p> Scope<'p> {
         at: &Subscripts,
         room: &mut Vec<i64>,
     ) -> Option<u32>
-        requires table { IsTable self.now }
         requires room { HasRoom self.now (vec_capacity room.old) at.now }
         requires rank { length results.now ≡ length sizes.now }
         requires sizes { All (λ n. 1 ≤ n) sizes.now }
         requires few { product sizes.now < 2 ^ 32 }
         requires safe { All (HasValue (env_of self.now) (use_of self.now at.now)) results.now }
-        ensures value { result ≡ cell_in sizes.now (map (value_in (env_of self.now) (use_of self.now at.now)) results.now) }
+        ensures value { result ≡ cell_in sizes.now (map
+            (value_in (env_of self.now) (use_of self.now at.now)) results.now) }
         ensures below { IfSome result (λ cell. cell < product sizes.now) }
         ensures capacity { vec_capacity room.new ≡ vec_capacity room.old }
     {
@@ -64,8 +64,7 @@ impl<'p> Scope<'p> {
     /// The number of an element of a memref, row-major; none where a subscript is outside its size.
     #[tactic(auto, using(crate::proofs::Elements::cells), unfolding(direct_meaning::specs::Static::results_of))]
     fn element(&self, at: &Subscripts, ty: &MemrefType, room: &mut Vec<i64>) -> Option<u32>
-        requires table { IsTable self.now }
-        requires operands { Operands (length self.now.names.now) (vec_capacity room.old) at.now.operands }
+        requires operands { Operands (length self.now.names) (vec_capacity room.old) at.now.operands }
         requires safe { SafeAccess (env_of self.now) (use_of self.now at.now) }
         requires rank { length at.now.map.results ≡ length ty.now.sizes }
         requires sizes { All (λ n. 1 ≤ n) ty.now.sizes }
@@ -86,13 +85,13 @@ impl<'p> Scope<'p> {
         ty: &MemrefType,
         room: &mut Vec<i64>,
     ) -> Place
-        requires table { IsTable self.now }
-        requires operands { Operands (length self.now.names.now) (vec_capacity room.old) at.now.operands }
+        requires operands { Operands (length self.now.names) (vec_capacity room.old) at.now.operands }
         requires safe { SafeAccess (env_of self.now) (use_of self.now at.now) }
         requires rank { length at.now.map.results ≡ length ty.now.sizes }
         requires sizes { All (λ n. 1 ≤ n) ty.now.sizes }
         requires fast { IsFast number ty.now }
-        ensures value { place_meant result ≡ half_place number ty.now.sizes (results_of (env_of self.now) (use_of self.now at.now)) }
+        ensures value { place_meant result ≡ half_place number ty.now.sizes
+            (results_of (env_of self.now) (use_of self.now at.now)) }
         ensures capacity { vec_capacity room.new ≡ vec_capacity room.old }
     {
         let sizes = ty.sizes.as_slice();
@@ -110,11 +109,11 @@ impl<'p> Scope<'p> {
     /// Where an access of a memref goes.
     #[tactic(auto, using(crate::proofs::Elements::places))]
     pub fn place(&self, memref: u32, at: &Subscripts, ty: &MemrefType, room: &mut Vec<i64>) -> Place
-        requires table { IsTable self.now }
-        requires memref { memref < length self.now.names.now }
-        requires operands { Operands (length self.now.names.now) (vec_capacity room.old) at.now.operands }
-        requires safe { SafePlace (env_of self.now) (name_at self.now.names.now memref) (use_of self.now at.now) ty.now }
-        ensures value { place_meant result ≡ place_of (env_of self.now) (name_at self.now.names.now memref) (use_of self.now at.now) ty.now }
+        requires memref { memref < length self.now.names }
+        requires operands { Operands (length self.now.names) (vec_capacity room.old) at.now.operands }
+        requires safe { SafePlace (env_of self.now) (name_at self.now.names memref) (use_of self.now at.now) ty.now }
+        ensures value { place_meant result ≡ place_of (env_of self.now) (name_at self.now.names memref)
+            (use_of self.now at.now) ty.now }
         ensures capacity { vec_capacity room.new ≡ vec_capacity room.old }
     {
         match self.home(memref) {
@@ -137,11 +136,11 @@ impl<'p> Scope<'p> {
         ty: &MemrefType,
         room: &mut Vec<i64>,
     ) -> Option<u32>
-        requires table { IsTable self.now }
-        requires memref { memref < length self.now.names.now }
-        requires operands { Operands (length self.now.names.now) (vec_capacity room.old) at.now.operands }
-        requires safe { SafePlace (env_of self.now) (name_at self.now.names.now memref) (use_of self.now at.now) ty.now }
-        ensures value { result ≡ tag_of (env_of self.now) (name_at self.now.names.now memref) (use_of self.now at.now) ty.now }
+        requires memref { memref < length self.now.names }
+        requires operands { Operands (length self.now.names) (vec_capacity room.old) at.now.operands }
+        requires safe { SafePlace (env_of self.now) (name_at self.now.names memref) (use_of self.now at.now) ty.now }
+        ensures value { result ≡ tag_of (env_of self.now) (name_at self.now.names memref)
+            (use_of self.now at.now) ty.now }
         ensures capacity { vec_capacity room.new ≡ vec_capacity room.old }
     {
         match self.home(memref) {

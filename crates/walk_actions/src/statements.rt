@@ -12,12 +12,12 @@ ghost use Rattle.valid_laws.specs.Safe.{SafePlace, SafePlain, IsMemref, IsCount,
 ghost use Rattle.walk_program.specs.Names.{name_at};
 ghost use Rattle.walk_program.specs.Numbered.{Operands, PlainFits};
 ghost use Rattle.walk_program.specs.Reading.{names_at, plain_of};
-ghost use Rattle.walk_actions.specs.Looked.{env_of, IsTable};
-ghost use Rattle.walk_actions.specs.Meant.{meant, operand_meant, OperandIn, NamesIn, NamesNone};
+ghost use Rattle.walk_actions.specs.Looked.{env_of, known_of, home_of};
+ghost use Rattle.walk_actions.specs.Meant.{meant, operand_meant, OperandIn, NamesIn, NamesNone, MeansAlone};
 ghost use Rattle.walk_actions.specs.Values.{use_of};
 
 use crate::action::{Action, Home, Operand};
-use crate::scope::Scope;
+use crate::environment::Environment;
 use affine_ast::{MemrefType, Scalar};
 use bus_model::FaultKind;
 use walk_program::{Plain, Subscripts};
@@ -38,7 +38,8 @@ pub(crate) fn elements(sizes: &[u32]) -> u32
 /// A constant: of index type its value is known where it is used.
 #[tactic(auto, unfolding(crate::specs::Meant::meant))]
 fn constant<'q>(into: u32, value: i64, ty: Scalar) -> Action<'q>
-    ensures value { (names : List TheName) (subscripts : List TheOperand) → meant names subscripts result ≡ constant_of (name_at names into) value ty }
+    ensures value { (names : List TheName) (subscripts : List TheOperand)
+        → meant names subscripts result ≡ constant_of (name_at names into) value ty }
     ensures inside { (count : ℕ) (subscripts : List TheOperand) → into < count → NamesIn count subscripts result }
 {
     match ty {
@@ -47,13 +48,13 @@ fn constant<'q>(into: u32, value: i64, ty: Scalar) -> Action<'q>
     }
 }
 
-impl<'p> Scope<'p> {
+impl<'p> Environment<'p> {
     /// What uses of names are, in order, in a list that has room for them.
     fn operands(&self, names: &[u32], uses: &mut Vec<Operand>)
-        requires table { IsTable self.now }
-        requires names { Operands (length self.now.names.now) (vec_capacity uses.old) names.now }
-        ensures values { map (operand_meant self.now.names.now) uses.new.items ≡ map (operand (env_of self.now)) (names_at self.now.names.now names.now) }
-        ensures inside { All (OperandIn (length self.now.names.now)) uses.new.items }
+        requires names { Operands (length self.now.names) (vec_capacity uses.old) names.now }
+        ensures values { map (operand_meant self.now.names) uses.new.items
+            ≡ map (operand (env_of self.now)) (names_at self.now.names names.now) }
+        ensures inside { All (OperandIn (length self.now.names)) uses.new.items }
         ensures capacity { vec_capacity uses.new ≡ vec_capacity uses.old }
     {
         uses.clear();
@@ -66,18 +67,18 @@ impl<'p> Scope<'p> {
     #[tactic(auto, unfolding(crate::specs::Meant::meant), using(crate::proofs::Elements::few_memref))]
     fn alloc<'q>(&self, ty: &'q MemrefType) -> Action<'q>
         requires { IsMemref (Some (new_home (env_of self.now) ty.now)) ty.now }
-        ensures value { (names : List TheName) (subscripts : List TheOperand) → meant names subscripts result ≡ alloc_of (env_of self.now) ty.now }
+        ensures value { MeansAlone result (alloc_of (env_of self.now) ty.now) }
         ensures inside { NamesNone result }
     {
         if ty.space == 1 {
             Action::Allocates {
-                number: self.fasts,
+                number: self.fasts(),
                 element: ty.element,
                 sizes: ty.sizes.as_slice(),
             }
         } else {
             Action::AllocatesTags {
-                first: self.tags,
+                first: self.tags(),
                 count: elements(ty.sizes.as_slice()),
             }
         }
@@ -86,10 +87,9 @@ impl<'p> Scope<'p> {
     /// A dealloc of what a name stands for.
     #[tactic(auto, unfolding(crate::specs::Meant::meant), using(crate::proofs::Elements::few_memref))]
     fn dealloc<'q>(&self, memref: u32, ty: &'q MemrefType) -> Action<'q>
-        requires table { IsTable self.now }
-        requires memref { memref < length self.now.names.now }
-        requires safe { IsMemref ((env_of self.now).home (name_at self.now.names.now memref)) ty.now }
-        ensures value { (names : List TheName) (subscripts : List TheOperand) → meant names subscripts result ≡ dealloc_of ((env_of self.now).home (name_at self.now.names.now memref)) ty.now }
+        requires memref { memref < length self.now.names }
+        requires safe { IsMemref (home_of self.now memref) ty.now }
+        ensures value { MeansAlone result (dealloc_of (home_of self.now memref) ty.now) }
         ensures inside { NamesNone result }
     {
         match self.home(memref) {
@@ -114,10 +114,9 @@ impl<'p> Scope<'p> {
 
     /// The count of a transfer.
     pub(crate) fn count(&self, name: u32) -> u64
-        requires table { IsTable self.now }
-        requires name { name < length self.now.names.now }
-        requires safe { IsCount ((env_of self.now).known (name_at self.now.names.now name)) }
-        ensures value { result ≡ gap (number ((env_of self.now).known (name_at self.now.names.now name))) }
+        requires name { name < length self.now.names }
+        requires safe { IsCount (known_of self.now name) }
+        ensures value { result ≡ gap (number (known_of self.now name)) }
         ensures least { 1 ≤ result }
         ensures fits { result < 2 ^ 63 }
     {
@@ -134,13 +133,13 @@ impl<'p> Scope<'p> {
         ty: &MemrefType,
         room: &mut Vec<i64>,
     ) -> Action<'q>
-        requires table { IsTable self.now }
-        requires tag { tag < length self.now.names.now }
-        requires operands { Operands (length self.now.names.now) (vec_capacity room.old) at.now.operands }
-        requires safe { SafePlace (env_of self.now) (name_at self.now.names.now tag) (use_of self.now at.now) ty.now }
-        requires count { count < length self.now.names.now }
-        requires counts { IsCount ((env_of self.now).known (name_at self.now.names.now count)) }
-        ensures value { (names : List TheName) (subscripts : List TheOperand) → meant names subscripts result ≡ wait_of (tag_of (env_of self.now) (name_at self.now.names.now tag) (use_of self.now at.now) ty.now) (gap (number ((env_of self.now).known (name_at self.now.names.now count)))) }
+        requires tag { tag < length self.now.names }
+        requires operands { Operands (length self.now.names) (vec_capacity room.old) at.now.operands }
+        requires safe { SafePlace (env_of self.now) (name_at self.now.names tag) (use_of self.now at.now) ty.now }
+        requires count { count < length self.now.names }
+        requires counts { IsCount (known_of self.now count) }
+        ensures value { MeansAlone result (wait_of (tag_of (env_of self.now) (name_at self.now.names tag)
+            (use_of self.now at.now) ty.now) (gap (number (known_of self.now count)))) }
         ensures inside { NamesNone result }
         ensures capacity { vec_capacity room.new ≡ vec_capacity room.old }
     {
@@ -163,12 +162,13 @@ impl<'p> Scope<'p> {
         ty: &'q MemrefType,
         uses: &mut Vec<Operand>,
     ) -> Action<'q>
-        requires table { IsTable self.now }
-        requires into { into < length self.now.names.now }
-        requires memref { memref < length self.now.names.now }
-        requires names { Operands (length self.now.names.now) (vec_capacity uses.old) at.now }
-        ensures value { meant self.now.names.now uses.new.items result ≡ RawLoads (name_at self.now.names.now into) ((env_of self.now).home (name_at self.now.names.now memref)) ty.entry.now.sizes (map (operand (env_of self.now)) (names_at self.now.names.now at.now)) }
-        ensures inside { NamesIn (length self.now.names.now) uses.new.items result }
+        requires into { into < length self.now.names }
+        requires memref { memref < length self.now.names }
+        requires names { Operands (length self.now.names) (vec_capacity uses.old) at.now }
+        ensures value { meant self.now.names uses.new.items result
+            ≡ RawLoads (name_at self.now.names into) (home_of self.now memref) ty.entry.now.sizes
+            (map (operand (env_of self.now)) (names_at self.now.names at.now)) }
+        ensures inside { NamesIn (length self.now.names) uses.new.items result }
         ensures stays { vec_capacity uses.new ≡ vec_capacity uses.old }
     {
         self.operands(at, uses);
@@ -189,12 +189,14 @@ impl<'p> Scope<'p> {
         ty: &'q MemrefType,
         uses: &mut Vec<Operand>,
     ) -> Action<'q>
-        requires table { IsTable self.now }
-        requires value { value < length self.now.names.now }
-        requires memref { memref < length self.now.names.now }
-        requires names { Operands (length self.now.names.now) (vec_capacity uses.old) at.now }
-        ensures value { meant self.now.names.now uses.new.items result ≡ RawStores (operand (env_of self.now) (name_at self.now.names.now value)) ((env_of self.now).home (name_at self.now.names.now memref)) ty.entry.now.sizes (map (operand (env_of self.now)) (names_at self.now.names.now at.now)) }
-        ensures inside { NamesIn (length self.now.names.now) uses.new.items result }
+        requires value { value < length self.now.names }
+        requires memref { memref < length self.now.names }
+        requires names { Operands (length self.now.names) (vec_capacity uses.old) at.now }
+        ensures value { meant self.now.names uses.new.items result
+            ≡ RawStores (operand (env_of self.now) (name_at self.now.names value))
+            (home_of self.now memref) ty.entry.now.sizes
+            (map (operand (env_of self.now)) (names_at self.now.names at.now)) }
+        ensures inside { NamesIn (length self.now.names) uses.new.items result }
         ensures stays { vec_capacity uses.new ≡ vec_capacity uses.old }
     {
         self.operands(at, uses);
@@ -213,12 +215,12 @@ impl<'p> Scope<'p> {
         room: &mut Vec<i64>,
         uses: &mut Vec<Operand>,
     ) -> Action<'q>
-        requires table { IsTable self.now }
-        requires names { PlainFits (length self.now.names.now) (vec_capacity room.old) plain.now }
+        requires names { PlainFits (length self.now.names) (vec_capacity room.old) plain.now }
         requires uses { vec_capacity room.old ≤ vec_capacity uses.old }
-        requires safe { SafePlain (env_of self.now) (plain_of self.now.names.now plain.now) }
-        ensures value { meant self.now.names.now uses.new.items result ≡ action_of (plain_of self.now.names.now plain.entry.now) (env_of self.now) }
-        ensures inside { NamesIn (length self.now.names.now) uses.new.items result }
+        requires safe { SafePlain (env_of self.now) (plain_of self.now.names plain.now) }
+        ensures value { meant self.now.names uses.new.items result
+            ≡ action_of (plain_of self.now.names plain.entry.now) (env_of self.now) }
+        ensures inside { NamesIn (length self.now.names) uses.new.items result }
         ensures room { vec_capacity room.new ≡ vec_capacity room.old }
         ensures stays { vec_capacity uses.new ≡ vec_capacity uses.old }
     {

@@ -1,30 +1,34 @@
 // The action of a start.
 
-ghost use Rattle.std.specs.Prelude.{◌≡◌, ◌<◌, ◌≤◌, ◌+◌, ◌-◌, ◌*◌, ◌/◌, ◌%◌, ◌^◌, ℕ, List, length, vec_capacity, All, Some};
+ghost use Rattle.std.specs.Prelude.{◌≡◌, ◌<◌, ◌≤◌, ◌+◌, ◌-◌, ◌*◌, ◌/◌, ◌%◌, ◌^◌, ℕ, List, length, vec_capacity, All};
+ghost use Rattle.std.specs.Prelude.{Some};
 ghost use Rattle.affine_ast.specs.declared.name.Name.{Name as TheName};
 ghost use Rattle.affine_ast.specs.Sizes.{product};
 ghost use Rattle.direct_meaning.specs.Action as meaning;
 ghost use Rattle.direct_meaning.specs.Static.{place_of, tag_of, number};
 ghost use Rattle.direct_meaning.specs.Turns.{gap};
-ghost use Rattle.direct_meaning.specs.Actions.{layout_of, half_cells, has_shape, started, transfer_of, start_between, start_of};
+ghost use Rattle.direct_meaning.specs.Actions.{layout_of, half_cells, has_shape, started, transfer_of, start_between};
+ghost use Rattle.direct_meaning.specs.Actions.{start_of};
 ghost use Rattle.valid_laws.specs.Safe.{SafePlace, SafeTypes, IsMemref, IsCount, SafeChunks};
 ghost use Rattle.walk_program.specs.Names.{name_at};
 ghost use Rattle.walk_program.specs.Numbered.{Operands, StrideFits};
 ghost use Rattle.walk_program.specs.Reading.{names_at, stride_of};
 ghost use Rattle.walk_actions.specs.declared.action.Operand.{Operand as TheOperand};
-ghost use Rattle.walk_actions.specs.Looked.{env_of, IsTable};
-ghost use Rattle.walk_actions.specs.Meant.{meant, place_meant, NamesNone};
+ghost use Rattle.walk_actions.specs.Looked.{env_of, known_of};
+ghost use Rattle.walk_actions.specs.Meant.{meant, place_meant, NamesNone, MeansAlone};
 ghost use Rattle.walk_actions.specs.Values.{use_of};
-ghost use Rattle.walk_actions.specs.Transfers.{layout_meant, transfer_at, AreChunks, IsEnd, home_at, place_at_end, tag_at_end};
+ghost use Rattle.walk_actions.specs.Transfers.{layout_meant, transfer_at, AreChunks, IsEnd, home_at, place_at_end};
+ghost use Rattle.walk_actions.specs.Transfers.{tag_at_end};
 
 use crate::action::{Action, Home, Place};
-use crate::scope::Scope;
+use crate::environment::Environment;
 use crate::statements::elements;
 use affine_ast::MemrefType;
 use bus_model::{FaultKind, Transfer};
 use walk_program::Subscripts;
 
-/// How many elements a transfer has, and how they lie: so many side by side, each such chunk begun a stride behind the last.
+/// How many elements a transfer has, and how they lie: so many side by side, each such chunk begun a stride behind the
+/// last.
 #[derive(Clone, Copy)]
 struct Chunks {
     count: u64,
@@ -61,16 +65,16 @@ fn has_shape(transfer: &Transfer, cells: u32) -> bool
         && transfer.count % transfer.chunk == 0
 }
 
-impl<'p> Scope<'p> {
+impl<'p> Environment<'p> {
     /// The count of a transfer, and how its elements lie.
     #[tactic(auto, using(crate::proofs::Lasts::chunkings))]
     fn chunks(&self, count: u32, stride: Option<(u32, u32)>) -> Chunks
-        requires table { IsTable self.now }
-        requires name { count < length self.now.names.now }
-        requires names { StrideFits (length self.now.names.now) stride }
-        requires count { IsCount ((env_of self.now).known (name_at self.now.names.now count)) }
-        requires safe { SafeChunks (env_of self.now) (stride_of self.now.names.now stride) }
-        ensures value { layout_meant result ≡ layout_of (env_of self.now) (name_at self.now.names.now count) (stride_of self.now.names.now stride) }
+        requires name { count < length self.now.names }
+        requires names { StrideFits (length self.now.names) stride }
+        requires count { IsCount (known_of self.now count) }
+        requires safe { SafeChunks (env_of self.now) (stride_of self.now.names stride) }
+        ensures value { layout_meant result ≡ layout_of (env_of self.now) (name_at self.now.names count)
+            (stride_of self.now.names stride) }
         ensures well { AreChunks result }
     {
         let count = self.count(count);
@@ -89,8 +93,8 @@ impl<'p> Scope<'p> {
     }
 }
 
-/// A transfer between a place in slow memory, the memref of which ends at a place, and a place in a half of so many cells: it starts,
-/// or is the fault of what is wrong with it.
+/// A transfer between a place in slow memory, the memref of which ends at a place, and a place in a half of so many
+/// cells: it starts, or is the fault of what is wrong with it.
 #[tactic(auto, unfolding(crate::specs::Meant::meant), using(crate::proofs::Lasts::starts))]
 fn started<'q>(
     incoming: bool,
@@ -105,7 +109,8 @@ fn started<'q>(
     cells: u32,
 ) -> Action<'q>
     requires { AreChunks chunks }
-    ensures value { (names : List TheName) (subscripts : List TheOperand) → meant names subscripts result ≡ started (transfer_at incoming tag memref base chunks fast half offset) end cells }
+    ensures value { MeansAlone result (started (transfer_at incoming tag memref base chunks fast half offset) end
+        cells) }
     ensures inside { NamesNone result }
 {
     if chunks.last_place(base) >= end as u128 {
@@ -149,7 +154,8 @@ fn transfer<'q>(
     requires rank { 1 ≤ length fast_ty.now.sizes }
     requires fast { product fast_ty.now.sizes < 2 ^ 32 }
     requires fast_sizes { All (λ n. 1 ≤ n) fast_ty.now.sizes }
-    ensures value { (names : List TheName) (subscripts : List TheOperand) → meant names subscripts result ≡ transfer_of incoming memref first slow_ty.now fast_ty.now (layout_meant chunks) (place_meant slow) (place_meant fast) tag }
+    ensures value { MeansAlone result (transfer_of incoming memref first slow_ty.now fast_ty.now (layout_meant chunks)
+        (place_meant slow) (place_meant fast) tag) }
     ensures inside { NamesNone result }
 {
     let Place::Slow(base) = slow else {
@@ -176,7 +182,7 @@ pub(crate) struct End<'p> {
     pub ty: &'p MemrefType,
 }
 
-impl<'p> Scope<'p> {
+impl<'p> Environment<'p> {
     /// A start of a transfer between two ends, which its tag names.
     #[tactic(auto, unfolding(crate::specs::Meant::meant), using(crate::proofs::Ends::ends))]
     fn start_between<'q>(
@@ -187,13 +193,14 @@ impl<'p> Scope<'p> {
         chunks: Chunks,
         room: &mut Vec<i64>,
     ) -> Action<'q>
-        requires table { IsTable self.now }
         requires from { IsEnd self.now (vec_capacity room.old) from }
         requires to { IsEnd self.now (vec_capacity room.old) to }
         requires tag { IsEnd self.now (vec_capacity room.old) tag }
         requires spaces { from.ty.now.space + to.ty.now.space ≡ 1 }
         requires chunks { AreChunks chunks }
-        ensures value { (names : List TheName) (subscripts : List TheOperand) → meant names subscripts result ≡ start_between (home_at self.now from.entry) (home_at self.now to.entry) (place_at_end self.now from.entry) (place_at_end self.now to.entry) from.entry.ty.now to.entry.ty.now (layout_meant chunks) (tag_at_end self.now tag.entry) }
+        ensures value { MeansAlone result (start_between (home_at self.now from.entry) (home_at self.now to.entry)
+            (place_at_end self.now from.entry) (place_at_end self.now to.entry) from.entry.ty.now to.entry.ty.now
+            (layout_meant chunks) (tag_at_end self.now tag.entry)) }
         ensures inside { NamesNone result }
         ensures capacity { vec_capacity room.new ≡ vec_capacity room.old }
     {
@@ -237,16 +244,23 @@ impl<'p> Scope<'p> {
         types: &[MemrefType; 3],
         room: &mut Vec<i64>,
     ) -> Action<'q>
-        requires table { IsTable self.now }
-        requires from { (from.0 < length self.now.names.now) × Operands (length self.now.names.now) (vec_capacity room.old) from.1.now.operands }
-        requires to { (to.0 < length self.now.names.now) × Operands (length self.now.names.now) (vec_capacity room.old) to.1.now.operands }
-        requires tag { (tag.0 < length self.now.names.now) × Operands (length self.now.names.now) (vec_capacity room.old) tag.1.now.operands }
-        requires name { count < length self.now.names.now }
-        requires names { StrideFits (length self.now.names.now) stride }
-        requires types { SafeTypes (env_of self.now) (name_at self.now.names.now from.0) (use_of self.now from.1.now) (name_at self.now.names.now to.0) (use_of self.now to.1.now) (name_at self.now.names.now tag.0) (use_of self.now tag.1.now) types.now }
-        requires count { IsCount ((env_of self.now).known (name_at self.now.names.now count)) }
-        requires safe { SafeChunks (env_of self.now) (stride_of self.now.names.now stride) }
-        ensures value { (names : List TheName) (subscripts : List TheOperand) → meant names subscripts result ≡ start_of (env_of self.now) (name_at self.now.names.now from.entry.0) (use_of self.now from.entry.1.now) (name_at self.now.names.now to.entry.0) (use_of self.now to.entry.1.now) (name_at self.now.names.now tag.entry.0) (use_of self.now tag.entry.1.now) (layout_of (env_of self.now) (name_at self.now.names.now count) (stride_of self.now.names.now stride)) types.now }
+        requires from { (from.0 < length self.now.names)
+            × Operands (length self.now.names) (vec_capacity room.old) from.1.now.operands }
+        requires to { (to.0 < length self.now.names) × Operands (length self.now.names)
+            (vec_capacity room.old) to.1.now.operands }
+        requires tag { (tag.0 < length self.now.names) × Operands (length self.now.names)
+            (vec_capacity room.old) tag.1.now.operands }
+        requires name { count < length self.now.names }
+        requires names { StrideFits (length self.now.names) stride }
+        requires types { SafeTypes (env_of self.now) (name_at self.now.names from.0) (use_of self.now from.1.now)
+            (name_at self.now.names to.0) (use_of self.now to.1.now) (name_at self.now.names tag.0)
+            (use_of self.now tag.1.now) types.now }
+        requires count { IsCount (known_of self.now count) }
+        requires safe { SafeChunks (env_of self.now) (stride_of self.now.names stride) }
+        ensures value { MeansAlone result (start_of (env_of self.now) (name_at self.now.names from.entry.0)
+            (use_of self.now from.entry.1.now) (name_at self.now.names to.entry.0) (use_of self.now to.entry.1.now)
+            (name_at self.now.names tag.entry.0) (use_of self.now tag.entry.1.now)
+            (layout_of (env_of self.now) (name_at self.now.names count) (stride_of self.now.names stride)) types.now) }
         ensures inside { NamesNone result }
         ensures capacity { vec_capacity room.new ≡ vec_capacity room.old }
     {

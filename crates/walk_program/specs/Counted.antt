@@ -15,7 +15,9 @@ pub record CountsOf (region : Nest) (counts : Counts) : Type 0 where
 -- the counts at each loop and condition are those of its regions
 abbrev pub Counted : List Name → Tree → Type 0
 Counted names Nothing = Unit {0}
-Counted names (Loop line v l u s inside body rest) = CountsOf (nest_of names body) inside × Counted names body × Counted names rest
+Counted names (Loop line v l u s inside body rest) = CountsOf (nest_of names body) inside × Counted names body
+    × Counted names rest
 Counted names (Branch line set operands first n has other m rest) =
-    CountsOf (nest_of names first) n × CountsOf (nest_of names other) m × Counted names first × Counted names other × Counted names rest
+    CountsOf (nest_of names first) n × CountsOf (nest_of names other) m × Counted names first × Counted names other
+    × Counted names rest
 Counted names (Does line p rest) = Counted names rest

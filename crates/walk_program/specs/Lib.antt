@@ -1,3 +1,4 @@
+-- what a program is, which a reader must believe
 pub mod Names
 pub mod Widths
 pub mod Tree
@@ -5,4 +6,5 @@ pub mod Reading
 pub mod Numbered
 pub mod Counted
 pub mod WellMade
+-- how one is made
 pub mod Numbering

@@ -1,5 +1,5 @@
 -- The table of a module's names: each name once, in the order of first use. A name's number is its place in it.
-use Rattle.std.specs.Prelude.{◌≡◌, ℕ, ◌<◌, false, List, [], ◌∷◌, ◌++◌, length, map, fold, Option, Some, None, slice_index_or, if◌then◌else◌}
+use Rattle.std.specs.Prelude.{◌≡◌, ℕ, ◌<◌, false, List, [], ◌∷◌, ◌++◌, length, map, fold, slice_index_or, if◌then◌else◌}
 use Rattle.std.specs.List.{list_any}
 use Rattle.affine_ast.specs.declared.module.Arg.{Arg}
 use Rattle.affine_ast.specs.declared.module.Module.{Module}

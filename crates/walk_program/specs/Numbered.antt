@@ -3,7 +3,8 @@ use Rattle.std.specs.Prelude.{ℕ, ◌<◌, ◌≤◌, List, length, All, Option
 use Rattle.walk_program.specs.declared.plain.Limit.{Limit}
 use Rattle.walk_program.specs.declared.plain.Limit.TheVariants as limit
 use Rattle.walk_program.specs.declared.plain.Plain.{Plain}
-use Rattle.walk_program.specs.declared.plain.Plain.TheVariants.{Value, Load, Store, RawLoad, RawStore, Constant, Binary, Cast, Alloc, Dealloc, Start, Wait, Return}
+use Rattle.walk_program.specs.declared.plain.Plain.TheVariants.{Value, Load, Store, RawLoad, RawStore, Constant}
+use Rattle.walk_program.specs.declared.plain.Plain.TheVariants.{Binary, Cast, Alloc, Dealloc, Start, Wait, Return}
 use Rattle.walk_program.specs.Tree.{Tree, Nothing, Loop, Branch, Does}
 
 -- numbers of operands: each is below the count of names, and they are at most so many
@@ -33,14 +34,18 @@ PlainFits count width (Cast r kind x from to) = (r < count) × (x < count)
 PlainFits count width (Alloc r ty) = r < count
 PlainFits count width (Dealloc m ty) = m < count
 PlainFits count width (Start a a_at b b_at t t_at n stride types) =
-    (a < count) × Operands count width a_at.operands × (b < count) × Operands count width b_at.operands × (t < count) × Operands count width t_at.operands × (n < count) × StrideFits count stride
+    (a < count) × Operands count width a_at.operands × (b < count) × Operands count width b_at.operands × (t < count)
+    × Operands count width t_at.operands × (n < count) × StrideFits count stride
 PlainFits count width (Wait t at n ty) = (t < count) × Operands count width at.operands × (n < count)
 PlainFits count width Return = Unit {0}
 
--- of statements in program order: with a table of `count` names and room for `width` operands, every look-up by number finds
--- its entry and every list of operands has room
+-- of statements in program order: with a table of `count` names and room for `width` operands, every look-up by number
+-- finds its entry and every list of operands has room
 abbrev pub Numbered : ℕ → ℕ → Tree → Type 0
 Numbered count width Nothing = Unit {0}
-Numbered count width (Loop line v l u s inside body rest) = (v < count) × LimitFits count width l × LimitFits count width u × Numbered count width body × Numbered count width rest
-Numbered count width (Branch line set operands first n has other m rest) = Operands count width operands × Numbered count width first × Numbered count width other × Numbered count width rest
+Numbered count width (Loop line v l u s inside body rest) =
+    (v < count) × LimitFits count width l × LimitFits count width u × Numbered count width body
+    × Numbered count width rest
+Numbered count width (Branch line set operands first n has other m rest) =
+    Operands count width operands × Numbered count width first × Numbered count width other × Numbered count width rest
 Numbered count width (Does line p rest) = PlainFits count width p × Numbered count width rest

@@ -42,15 +42,16 @@ pub record Grows (old new : Table) : Type 0 where
 abbrev pub Lasting : (Table → Type 0) → Table → Type 0
 Lasting P now = (t : Table) → Grows now t → P t
 
--- numbering a part of a text with these names and this longest list of operands: the table takes them in, and from then on
--- this is so of the result
+-- numbering a part of a text with these names and this longest list of operands: the table takes them in, and from then
+-- on this is so of the result
 pub record Numbers (P : Table → Type 0) (uses : List Name) (width : ℕ) (old new : Table) : Type 0 where
   pub names : new.names ≡ all_listed old.names uses
   pub wide : new.width ≡ max old.width width
   pub lasting : Lasting P new
 
 -- a part with numbers stands for a part with names: read by the table it is that part, and its numbers fit the table
-pub record Stands {X Y : Type 0} (Fit : ℕ → ℕ → X → Type 0) (reading : List Name → X → Y) (x : X) (y : Y) (t : Table) : Type 0 where
+pub record Stands {X Y : Type 0} (Fit : ℕ → ℕ → X → Type 0) (reading : List Name → X → Y) (x : X) (y : Y)
+    (t : Table) : Type 0 where
   pub fits : Fit (length t.names) t.width x
   pub reads : reading t.names x ≡ y
 
@@ -112,7 +113,8 @@ NumbersRegion statements inside n = Numbers (IsRegion statements inside n) (uses
 
 -- whatever the names are, where the counts inside a statement are right these are the statement's own
 abbrev pub AreCounts : Statement → Counts → Type 0
-AreCounts s counts = (names : List Name) → Counted names (tree (s ∷ [])) → CountsOf (nest_of names (tree (s ∷ []))) counts
+AreCounts s counts = (names : List Name) → Counted names (tree (s ∷ []))
+    → CountsOf (nest_of names (tree (s ∷ []))) counts
 
 -- likewise of a plain statement
 abbrev pub ArePlainCounts : Plain → Counts → Type 0

@@ -10,7 +10,8 @@ use Rattle.affine_ast.specs.Nest.{Nest}
 use Rattle.walk_program.specs.declared.plain.Limit.{Limit}
 use Rattle.walk_program.specs.declared.plain.Limit.TheVariants as limit
 use Rattle.walk_program.specs.declared.plain.Plain.{Plain}
-use Rattle.walk_program.specs.declared.plain.Plain.TheVariants.{Value, Load, Store, RawLoad, RawStore, Constant, Binary, Cast, Alloc, Dealloc, Start, Wait, Return}
+use Rattle.walk_program.specs.declared.plain.Plain.TheVariants.{Value, Load, Store, RawLoad, RawStore, Constant}
+use Rattle.walk_program.specs.declared.plain.Plain.TheVariants.{Binary, Cast, Alloc, Dealloc, Start, Wait, Return}
 use Rattle.walk_program.specs.declared.plain.Subscripts.{Subscripts}
 use Rattle.walk_program.specs.declared.program.Argument.{Argument}
 use Rattle.walk_program.specs.Names.{name_at}
@@ -44,15 +45,18 @@ plain_of names (Cast r kind x from to) = named.Cast (name_at names r) kind (name
 plain_of names (Alloc r ty) = named.Alloc (name_at names r) ty
 plain_of names (Dealloc m ty) = named.Dealloc (name_at names m) ty
 plain_of names (Start a a_at b b_at t t_at n stride types) =
-    named.Start (name_at names a) (access_of names a_at) (name_at names b) (access_of names b_at) (name_at names t) (access_of names t_at) (name_at names n) (stride_of names stride) types
+    named.Start (name_at names a) (access_of names a_at) (name_at names b) (access_of names b_at) (name_at names t)
+    (access_of names t_at) (name_at names n) (stride_of names stride) types
 plain_of names (Wait t at n ty) = named.Wait (name_at names t) (access_of names at) (name_at names n) ty
 plain_of names Return = named.Return
 
 -- statements in program order
 abbrev pub nest_of : List Name → Tree → Nest
 nest_of names Nothing = named.Nothing
-nest_of names (Loop line v l u s inside body rest) = named.Loop line (name_at names v) (bound_of names l) (bound_of names u) s (nest_of names body) (nest_of names rest)
-nest_of names (Branch line set operands first n has other m rest) = named.Branch line set (names_at names operands) (nest_of names first) has (nest_of names other) (nest_of names rest)
+nest_of names (Loop line v l u s inside body rest) = named.Loop line (name_at names v) (bound_of names l)
+    (bound_of names u) s (nest_of names body) (nest_of names rest)
+nest_of names (Branch line set operands first n has other m rest) =
+    named.Branch line set (names_at names operands) (nest_of names first) has (nest_of names other) (nest_of names rest)
 nest_of names (Does line p rest) = named.Does line (plain_of names p) (nest_of names rest)
 
 abbrev pub argument_of : List Name → Argument → Arg

@@ -13,8 +13,8 @@ pub data Tree : Type 0 where
   Nothing : Tree
   -- a loop: variable, lower and upper bound, step, what is allocated in its body, body; then what follows
   Loop : ℕ → ℕ → Limit → Limit → ℤ → Counts → Tree → Tree → Tree
-  -- a condition: set, operands, first region and what is allocated in it, whether there is an else region, that region or
-  -- nothing and what is allocated in it; then what follows
+  -- a condition: set, operands, first region and what is allocated in it, whether there is an else region, that region
+  -- or nothing and what is allocated in it; then what follows
   Branch : ℕ → Set → List ℕ → Tree → Counts → Bool → Tree → Counts → Tree → Tree
   -- a plain statement; then what follows
   Does : ℕ → Plain → Tree → Tree
@@ -23,7 +23,8 @@ pub data Tree : Type 0 where
 abbrev pub followed_by : Tree → Tree → Tree
 followed_by Nothing b = b
 followed_by (Loop line v l u s inside body rest) b = Loop line v l u s inside body (followed_by rest b)
-followed_by (Branch line set operands first n has other m rest) b = Branch line set operands first n has other m (followed_by rest b)
+followed_by (Branch line set operands first n has other m rest) b =
+    Branch line set operands first n has other m (followed_by rest b)
 followed_by (Does line p rest) b = Does line p (followed_by rest b)
 
 -- what puts a statement before others
@@ -45,7 +46,8 @@ joined_other None = Nothing
 -- a statement over its parts: with its line, it is put before what follows
 abbrev pub put_layer : Form-F (ℕ → Puts) Puts → ℕ → Puts
 put_layer (Form-F.For v l u s inside body) line rest = Loop line v l u s inside (joined body) rest
-put_layer (Form-F.If set operands first n other m) line rest = Branch line set operands (joined first) n (is_there other) (joined_other other) m rest
+put_layer (Form-F.If set operands first n other m) line rest =
+    Branch line set operands (joined first) n (is_there other) (joined_other other) m rest
 put_layer (Form-F.Plain p) line rest = Does line p rest
 
 abbrev pub put_statement_layer : Statement-F (ℕ → Puts) Puts → Puts

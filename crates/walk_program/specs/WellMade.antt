@@ -8,8 +8,8 @@ use Rattle.walk_program.specs.Numbered.{Numbered}
 use Rattle.walk_program.specs.Reading.{nest_of}
 use Rattle.walk_program.specs.Tree.{tree}
 
--- a program by itself: its names are distinct, its numbers are theirs, no list of operands is longer than its width, and the
--- counts of its regions and of its whole body are right
+-- a program by itself: its names are distinct, its numbers are theirs, no list of operands is longer than its width,
+-- and the counts of its regions and of its whole body are right
 pub record WellMade (p : Program) : Type 0 where
   pub distinct : AreDistinct p.names
   pub arguments : All (λ (a : Argument). a.name < length p.names) p.arguments

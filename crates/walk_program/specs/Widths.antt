@@ -23,6 +23,8 @@ width_in_plain p = longest (operand_lists p)
 -- in statements, 0 where there is no list of operands
 abbrev pub width_in : Nest → ℕ
 width_in Nothing = 0
-width_in (Loop line v l u s body rest) = max (max (width_in_bound l) (width_in_bound u)) (max (width_in body) (width_in rest))
-width_in (Branch line set names first has other rest) = max (length names) (max (max (width_in first) (width_in other)) (width_in rest))
+width_in (Loop line v l u s body rest) = max (max (width_in_bound l) (width_in_bound u))
+    (max (width_in body) (width_in rest))
+width_in (Branch line set names first has other rest) =
+    max (length names) (max (max (width_in first) (width_in other)) (width_in rest))
 width_in (Does line p rest) = max (width_in_plain p) (width_in rest)

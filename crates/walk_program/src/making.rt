@@ -20,7 +20,8 @@ fn number_arguments<'a>(
     alloc: Global,
     args: &'a [Arg],
 ) -> Result<Items<Argument>, AllocError>
-    ensures { IfOk result (λ arguments. Numbers (AreArguments arguments args.now) (uses_of_arguments args.now) 0 numbering.old numbering.new) }
+    ensures { IfOk result (λ arguments. Numbers (AreArguments arguments args.now)
+        (uses_of_arguments args.now) 0 numbering.old numbering.new) }
 {
     let mut arguments = Items::new(alloc);
     for arg in args {
@@ -33,9 +34,9 @@ fn number_arguments<'a>(
     Ok(arguments)
 }
 
-/// The program of a module: the module with a number in place of each name, in the order of first use, the arguments first.
-/// It can be made of every module. Where names, or what is allocated in a region, need a number of more than 32 bits, which they
-/// do in no valid module, the answer is want of memory.
+/// The program of a module: the module with a number in place of each name, in the order of first use, the arguments
+/// first. It can be made of every module. Where names, or what is allocated in a region, need a number of more than 32
+/// bits, which they do in no valid module, the answer is want of memory.
 pub fn make(alloc: Global, module: &Module) -> Result<Program, AllocError>
     ensures made { IfOk result (λ p. WellMade p) }
     ensures names { IfOk result (λ p. p.names ≡ names_of «module».now) }

@@ -130,7 +130,8 @@ impl<'a> Numbering<'a> {
         alloc: Global,
         names: &'a [Name],
     ) -> Result<Items<u32>, AllocError>
-        ensures { IfOk result (λ ks. Numbers (AreOperands ks names.now) names.now (length names.now) self.old self.new) }
+        ensures { IfOk result (λ ks. Numbers (AreOperands ks names.now) names.now
+            (length names.now) self.old self.new) }
     {
         let numbers = self.listed(alloc, names)?;
         self.widen(numbers.len())?;
@@ -143,7 +144,8 @@ impl<'a> Numbering<'a> {
         alloc: Global,
         at: &'a Access,
     ) -> Result<Subscripts, AllocError>
-        ensures { IfOk result (λ s. Numbers (IsSubscripts s at.now) at.now.operands (length at.now.operands) self.old self.new) }
+        ensures { IfOk result (λ s. Numbers (IsSubscripts s at.now) at.now.operands
+            (length at.now.operands) self.old self.new) }
     {
         Ok(Subscripts {
             map: at.map.copy(alloc)?,
@@ -153,7 +155,8 @@ impl<'a> Numbering<'a> {
 
     /// A bound with numbers.
     pub(crate) fn limit(&mut self, alloc: Global, bound: &'a Bound) -> Result<Limit, AllocError>
-        ensures { IfOk result (λ l. Numbers (IsLimit l bound.now) (uses_in_bound bound.now) (width_in_bound bound.now) self.old self.new) }
+        ensures { IfOk result (λ l. Numbers (IsLimit l bound.now) (uses_in_bound bound.now)
+            (width_in_bound bound.now) self.old self.new) }
     {
         match bound {
             Bound::Int(value) => Ok(Limit::Int(*value)),

@@ -89,8 +89,8 @@ pub enum Plain {
         memref: u32,
         ty: MemrefType,
     },
-    /// `affine.dma_start`: of `count` elements, with a stride and then the elements of a chunk where both are given. The
-    /// types are those of the source, the destination and the tags.
+    /// `affine.dma_start`: of `count` elements, with a stride and then the elements of a chunk where both are given.
+    /// The types are those of the source, the destination and the tags.
     Start {
         from: u32,
         from_at: Subscripts,

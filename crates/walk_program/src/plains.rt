@@ -33,7 +33,8 @@ pub(crate) fn number_load<'a>(
     at: &'a Access,
     ty: &MemrefType,
 ) -> Result<Plain, AllocError>
-    ensures { IfOk result (λ p. NumbersPlain p (named.Load into.now memref.now at.now ty.now) numbering.old numbering.new) }
+    ensures { IfOk result (λ p. NumbersPlain p (named.Load into.now memref.now at.now ty.now) numbering.old
+        numbering.new) }
 {
     Ok(Plain::Load {
         result: numbering.number(into)?,
@@ -51,7 +52,8 @@ pub(crate) fn number_store<'a>(
     at: &'a Access,
     ty: &MemrefType,
 ) -> Result<Plain, AllocError>
-    ensures { IfOk result (λ p. NumbersPlain p (named.Store value.now memref.now at.now ty.now) numbering.old numbering.new) }
+    ensures { IfOk result (λ p. NumbersPlain p (named.Store value.now memref.now at.now ty.now) numbering.old
+        numbering.new) }
 {
     Ok(Plain::Store {
         value: numbering.number(value)?,
@@ -69,7 +71,8 @@ pub(crate) fn number_raw_load<'a>(
     at: &'a [Name],
     ty: &MemrefType,
 ) -> Result<Plain, AllocError>
-    ensures { IfOk result (λ p. NumbersPlain p (named.RawLoad into.now memref.now at.now ty.now) numbering.old numbering.new) }
+    ensures { IfOk result (λ p. NumbersPlain p (named.RawLoad into.now memref.now at.now ty.now) numbering.old
+        numbering.new) }
 {
     Ok(Plain::RawLoad {
         result: numbering.number(into)?,
@@ -87,7 +90,8 @@ pub(crate) fn number_raw_store<'a>(
     at: &'a [Name],
     ty: &MemrefType,
 ) -> Result<Plain, AllocError>
-    ensures { IfOk result (λ p. NumbersPlain p (named.RawStore value.now memref.now at.now ty.now) numbering.old numbering.new) }
+    ensures { IfOk result (λ p. NumbersPlain p (named.RawStore value.now memref.now at.now ty.now) numbering.old
+        numbering.new) }
 {
     Ok(Plain::RawStore {
         value: numbering.number(value)?,
@@ -120,7 +124,8 @@ pub(crate) fn number_binary<'a>(
     right: &'a Name,
     ty: Scalar,
 ) -> Result<Plain, AllocError>
-    ensures { IfOk result (λ p. NumbersPlain p (named.Binary into.now op left.now right.now ty) numbering.old numbering.new) }
+    ensures { IfOk result (λ p. NumbersPlain p (named.Binary into.now op left.now right.now ty) numbering.old
+        numbering.new) }
 {
     Ok(Plain::Binary {
         result: numbering.number(into)?,
@@ -139,7 +144,8 @@ pub(crate) fn number_cast<'a>(
     from: Scalar,
     to: Scalar,
 ) -> Result<Plain, AllocError>
-    ensures { IfOk result (λ p. NumbersPlain p (named.Cast into.now kind value.now from to) numbering.old numbering.new) }
+    ensures { IfOk result (λ p. NumbersPlain p (named.Cast into.now kind value.now from to) numbering.old
+        numbering.new) }
 {
     Ok(Plain::Cast {
         result: numbering.number(into)?,
@@ -201,7 +207,8 @@ pub(crate) fn number_start<'a>(
     stride: &'a Option<(Name, Name)>,
     types: &[MemrefType; 3],
 ) -> Result<Plain, AllocError>
-    ensures { IfOk result (λ p. NumbersPlain p (named.Start from.now from_at.now to.now to_at.now tag.now tag_at.now count.now stride.now types.now) numbering.old numbering.new) }
+    ensures { IfOk result (λ p. NumbersPlain p (named.Start from.now from_at.now to.now to_at.now tag.now tag_at.now
+        count.now stride.now types.now) numbering.old numbering.new) }
 {
     Ok(Plain::Start {
         from: numbering.number(from)?,
@@ -224,7 +231,8 @@ pub(crate) fn number_wait<'a>(
     count: &'a Name,
     ty: &MemrefType,
 ) -> Result<Plain, AllocError>
-    ensures { IfOk result (λ p. NumbersPlain p (named.Wait tag.now tag_at.now count.now ty.now) numbering.old numbering.new) }
+    ensures { IfOk result (λ p. NumbersPlain p (named.Wait tag.now tag_at.now count.now ty.now) numbering.old
+        numbering.new) }
 {
     Ok(Plain::Wait {
         tag: numbering.number(tag)?,

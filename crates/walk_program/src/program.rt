@@ -15,7 +15,8 @@ pub struct Argument {
 /// A module with a number in place of each name.
 #[derive(Drop)]
 pub struct Program {
-    /// The names of the module, each once, in the order of first use: the arguments first. A name's number is its place here.
+    /// The names of the module, each once, in the order of first use: the arguments first. A name's number is its place
+    /// here.
     pub names: Items<Name>,
     /// The arguments, in order.
     pub arguments: Items<Argument>,
@@ -23,6 +24,7 @@ pub struct Program {
     pub body: Items<Statement>,
     /// What is allocated in the body.
     pub inside: Counts,
-    /// How many operands the longest list of them has: of a map, of a set, or of the subscripts of `memref.load` and `store`.
+    /// How many operands the longest list of them has: of a map, of a set, or of the subscripts of `memref.load` and
+    /// `store`.
     pub width: u32,
 }

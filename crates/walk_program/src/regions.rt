@@ -70,7 +70,9 @@ fn number_loop<'a>(
     step: i64,
     body: &'a [Stmt],
 ) -> Result<Statement, AllocError>
-    ensures { IfOk result (λ s. NumbersNest (tree.tree (s ∷ [])) (named.Loop line var.now lower.now upper.now step (named.nest body.now) named.Nothing) numbering.old numbering.new) }
+    ensures { IfOk result (λ s. NumbersNest (tree.tree (s ∷ []))
+        (named.Loop line var.now lower.now upper.now step
+        (named.nest body.now) named.Nothing) numbering.old numbering.new) }
 {
     let var = numbering.number(var)?;
     let lower = numbering.limit(alloc, lower)?;
@@ -95,7 +97,8 @@ fn number_statement<'a>(
     alloc: Global,
     stmt: &'a Stmt,
 ) -> Result<Statement, AllocError>
-    ensures { IfOk result (λ s. NumbersNest (tree.tree (s ∷ [])) (named.nest (stmt.now ∷ [])) numbering.old numbering.new) }
+    ensures { IfOk result (λ s. NumbersNest (tree.tree (s ∷ []))
+        (named.nest (stmt.now ∷ [])) numbering.old numbering.new) }
 {
     let line = stmt.line;
     match &stmt.what {
@@ -233,7 +236,8 @@ pub(crate) fn number_region<'a>(
     alloc: Global,
     stmts: &'a [Stmt],
 ) -> Result<Region, AllocError>
-    ensures { IfOk result (λ r. NumbersRegion r.statements r.inside (named.nest stmts.now) numbering.old numbering.new) }
+    ensures { IfOk result (λ r. NumbersRegion r.statements r.inside
+        (named.nest stmts.now) numbering.old numbering.new) }
 {
     let mut statements = Items::new(alloc);
     let mut inside = Counts::none();

@@ -1,7 +1,16 @@
-use Rattle.std.proofs.Common.{subst}
-use Rattle.affine_expr.specs.Linear.{Meets}
-use Rattle.affine_expr.proofs.Exactness.{linear_exact}
+use Rattle.std.proofs.Common.{rules, to_z, of_z}
+use Rattle.std.specs.Int.{w128}
+use Rattle.affine_expr.specs.Forms.{LinearForm}
+use Rattle.affine_expr.specs.Linear.{linear_of}
+use Rattle.affine_expr.proofs.Meaning.{linear_means, linear_shaped}
 use Rattle.affine_expr.proofs.expr.Expr.linear.Goals as goal
 
-pub returns-clause-exact : goal.returns-clause-exact
-returns-clause-exact c = subst (λ w. Meets w (λ f. f) c.linear_found.result) (linear_exact c.args.dims c.args.syms c.args.self.now c.requires.pure c.requires.small) c.linear_found.ensures.exact
+pub returns-clause-shaped : goal.returns-clause-shaped
+unfolding linear_of
+returns-clause-shaped c = linear_shaped c.args.dims c.args.syms c.args.self.now _ (search rules)
+
+pub returns-clause-means : goal.returns-clause-means
+unfolding linear_of
+returns-clause-means c =
+    let f : LinearForm = record { coefs = c.coefs.inside.coefs.items; constant = to_z w128 (of_z w128 c.coefs.inside.constant); locals = c.formed.new.locals.items } in
+    linear_means c.args.dims c.args.syms c.args.self.now f (search rules)

@@ -1,12 +1,14 @@
+use Rattle.walk_program.specs.Names.{name_at}
+use Rattle.walk_actions.specs.Looked.{env_of, with_home, homes_meant}
 use Rattle.nest_walk.specs.Jobs.{stand_of}
+use Rattle.nest_walk.proofs.Frames.{under_stand}
 use Rattle.nest_walk.proofs.Steps.{placed_again, placed_inside}
 use Rattle.nest_walk.proofs.position.Position.stand_again.Goals as goal
 
-pub stand-requires-clause-name : goal.stand-requires-clause-name
-stand-requires-clause-name c = placed_inside (stand_of c.args.self.now) c.args.name c.args.before c.requires.sound
+pub stand-requires : goal.stand-requires
+stand-requires c = record { name = placed_inside (stand_of c.args.self.now) c.args.name c.args.before c.requires.ready }
 
 pub returns : goal.returns
-returns c = record {
-  skips = placed_again (stand_of c.args.self.now) _ c.args.name c.args.before c.requires.sound c.requires.empty c.stand.ensures.at.stand;
-  table = c.stand.ensures.at.table;
-}
+returns c =
+    let p = c.args.self.now in
+    placed_again (stand_of p) _ c.args.name c.args.before c.requires.ready c.requires.empty (under_stand p _ (with_home (name_at p.bindings.names c.args.name) (homes_meant c.args.before) (env_of p.bindings)) c.stand.ensures.at)

@@ -1,0 +1,5 @@
+pub mod Apart
+pub mod Spreads
+pub mod StretchRows
+pub mod Appending
+pub mod ClashSteps

@@ -1,0 +1,11 @@
+use Rattle.std.proofs.Common.{◌≡◌, take, map, fold, vec_capacity}
+use Rattle.std.specs.Int.{int_max}
+use Rattle.walk_actions.specs.Looked.{env_of}
+use Rattle.walk_actions.specs.Values.{value_in, use_of}
+use Rattle.walk_actions.proofs.environment.Environment.greatest.Given as goal
+
+abbrev pub invariant-loop-expr : goal.invariant-loop-expr
+invariant-loop-expr l = record {
+  best : l.greatest ≡ fold int_max l.initial.greatest (map (value_in (env_of l.self) (use_of l.self l.at)) (take l.expr-index l.rest));
+  capacity : vec_capacity l.room ≡ vec_capacity l.fn.room;
+}

@@ -1,0 +1,25 @@
+use Rattle.walk_program.specs.Names.{name_at}
+use Rattle.walk_actions.specs.Looked.{env_of}
+use Rattle.walk_actions.specs.Values.{use_of}
+use Rattle.walk_actions.proofs.Elements.{tag_there, tag_outside, tag_slow, tag_fast}
+use Rattle.walk_actions.proofs.environment.Environment.tag.Goals as goal
+
+pub returns-in-Some-clause-value : goal.returns-in-Some-clause-value
+returns-in-Some-clause-value c =
+    let home = (rw c.in-Some-Tags.field-0-is at c.in-Some-Tags.ensures) in
+    tag_there (env_of c.args.self.now) (name_at c.args.self.now.names c.args.memref) (use_of c.args.self.now c.args.at.now) c.args.ty.now _ _ home c.in-Some.ensures.value
+
+pub returns-in-None-element-clause-value : goal.returns-in-None-element-clause-value
+returns-in-None-element-clause-value c =
+    let home = (rw c.in-Some-Tags.field-0-is at c.in-Some-Tags.ensures) in
+    tag_outside (env_of c.args.self.now) (name_at c.args.self.now.names c.args.memref) (use_of c.args.self.now c.args.at.now) c.args.ty.now _ home c.in-None-element.ensures.value
+
+pub returns-in-Some-Slow-clause-value : goal.returns-in-Some-Slow-clause-value
+returns-in-Some-Slow-clause-value c =
+    let home = (rw c.in-Some-Slow.field-0-is at c.in-Some-Slow.ensures) in
+    tag_slow (env_of c.args.self.now) (name_at c.args.self.now.names c.args.memref) (use_of c.args.self.now c.args.at.now) c.args.ty.now _ _ home
+
+pub returns-in-Some-Fast-clause-value : goal.returns-in-Some-Fast-clause-value
+returns-in-Some-Fast-clause-value c =
+    let home = (rw c.in-Some-Fast.field-0-is at c.in-Some-Fast.ensures) in
+    tag_fast (env_of c.args.self.now) (name_at c.args.self.now.names c.args.memref) (use_of c.args.self.now c.args.at.now) c.args.ty.now _ home
