@@ -21,7 +21,6 @@ pub fn is_in<'a>(names: &Names<'a>, name: &'a Name) -> bool
     found(names, name).is_some()
 }
 
-#[tactic(auto, unfolding(affine_ast::specs::Rules::are_in))]
 pub fn are_in<'a>(names: &Names<'a>, used: &'a [Name]) -> bool
     ensures { result ≡ are_in (scope_of names.now.entries) used.now }
 {

@@ -17,7 +17,6 @@ use std::alloc::{AllocError, Global};
 
 type Stride = Option<(Name, Name)>;
 
-#[tactic(auto, unfolding(affine_ast::specs::Rules::are_in))]
 fn stride_in<'a>(names: &Names<'a>, stride: &'a Stride) -> bool
     ensures { result ≡ are_in (scope_of names.now.entries) (stride_names stride.now) }
 {
