@@ -33,7 +33,7 @@ use Rattle.affine_ast.specs.Sizes.{element_bits, scalar_bits}
 unfoldable pub is_in : Scope → Name → Bool
 is_in s n = is_some (s n)
 
-abbrev pub are_in : Scope → List Name → Bool
+unfoldable pub are_in : Scope → List Name → Bool
 are_in s = list_all (is_in s)
 
 -- a memref with its subscripts
@@ -46,7 +46,7 @@ bound_in s (bound.Value n) = is_in s n
 bound_in s (bound.Map at) = are_in s at.operands
 
 abbrev pub uses_in_scope : Scope → Plain → Bool
-uses_in_scope s p = are_in s (uses_of p)
+uses_in_scope s p = list_all (is_in s) (uses_of p)
 
 -- ---- V2: a value defined isn't in scope already
 

@@ -8,11 +8,21 @@
 //     [#### most-write N]     most bytes that a write takes (else 4,096)
 //     [#### fails-write N ..] the numbers of the writes that fail, from 1
 //     [#### repeat N]         how often the source's bytes stand behind one another (else once)
-//     #### source N           and N bytes, and a line feed
+//     #### source [FILE]      a text, or the bytes of this file
 //     #### status N
 //     #### message TEXT
-//     #### output N           what goes out: N bytes, and a line feed
+//     #### output             what goes out
+//
+// Behind `source` and `output` stands a text, from the next line to the line feed before the next line that begins with `#### `,
+// or before the end of the file. So a text that ends with a line feed has an empty line behind it.
 use std::alloc::{AllocError, Global};
+
+/// What the source gives: bytes that stand in the case, or those of a file that lies where the program runs.
+#[derive(Clone, Copy)]
+pub enum Given<'a> {
+    Here(&'a [u8]),
+    File(&'a str),
+}
 
 /// One run of the top call, and what it must come to.
 #[derive(Drop)]
@@ -23,7 +33,7 @@ pub struct Case<'a> {
     pub most_write: usize,
     pub fails_write: Vec<u64>,
     pub repeat: u64,
-    pub source: &'a [u8],
+    pub source: Given<'a>,
     pub status: u64,
     pub message: &'a str,
     pub output: &'a [u8],
@@ -55,14 +65,28 @@ fn optional<'a>(bytes: &'a [u8], word: &str) -> (Option<&'a str>, &'a [u8]) {
     }
 }
 
-/// Bytes under a line that counts them.
-fn counted<'a>(bytes: &'a [u8], word: &str) -> Option<(&'a [u8], &'a [u8])> {
-    let (count, rest) = field(bytes, word)?;
-    let count = count.parse::<usize>().ok()?;
-    if count < rest.len() {
-        Some((&rest[..count], &rest[count + 1..]))
+/// The text under a line with this word, up to the line feed before the next heading or the end.
+fn text_under<'a>(bytes: &'a [u8], word: &str) -> Option<(&'a [u8], &'a [u8])> {
+    let (_, rest) = field(bytes, word)?;
+    let heading = rest
+        .windows(6)
+        .position(|window| window == b"\n#### ".as_slice());
+    let end = heading.unwrap_or(rest.len().saturating_sub(1));
+    if end < rest.len() {
+        Some((&rest[..end], &rest[end + 1..]))
     } else {
         None
+    }
+}
+
+/// What the source gives.
+fn read_given<'a>(bytes: &'a [u8]) -> Option<(Given<'a>, &'a [u8])> {
+    let (file, rest) = field(bytes, "source")?;
+    if file.is_empty() {
+        let (text, rest) = text_under(bytes, "source")?;
+        Some((Given::Here(text), rest))
+    } else {
+        Some((Given::File(file), rest))
     }
 }
 
@@ -116,7 +140,7 @@ fn read_expected(bytes: &[u8]) -> Option<Expected<'_>> {
     let (status, rest) = field(bytes, "status")?;
     let status = status.parse::<u64>().ok()?;
     let (message, rest) = field(rest, "message")?;
-    let (output, rest) = counted(rest, "output")?;
+    let (output, rest) = text_under(rest, "output")?;
     Some(Expected {
         status,
         message,
@@ -138,7 +162,7 @@ pub fn next_case<'a>(
     let (most_write, rest) = optional(rest, "most-write");
     let (fails_write, rest) = optional(rest, "fails-write");
     let (repeat, rest) = optional(rest, "repeat");
-    let Some((source, rest)) = counted(rest, "source") else {
+    let Some((source, rest)) = read_given(rest) else {
         return Ok(None);
     };
     let Some(expected) = read_expected(rest) else {

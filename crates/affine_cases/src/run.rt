@@ -1,9 +1,9 @@
 // One run of the top call.
-use crate::case::Case;
+use crate::case::{Case, Given};
 use affine_driver::{Ending, stage_main};
 use affine_io::{MemSink, MemSource};
 use std::alloc::{AllocError, Global};
-use std::io;
+use std::{fs, io};
 
 /// How many cases ran, and how many differ from what they must come to.
 #[derive(Clone, Copy)]
@@ -38,12 +38,21 @@ fn is_expected(
     Ok(true)
 }
 
-/// The bytes of the source.
-fn source_of(alloc: Global, case: &Case<'_>) -> Result<Vec<u8>, AllocError> {
+/// Bytes, so many times behind one another.
+fn repeated(alloc: Global, text: &[u8], count: u64) -> Result<Vec<u8>, AllocError> {
     let mut bytes = Vec::new(alloc);
-    for _time in 0..case.repeat {
-        bytes.extend_from_slice(case.source)?;
+    for _time in 0..count {
+        bytes.extend_from_slice(text)?;
     }
+    Ok(bytes)
+}
+
+/// The bytes of the source.
+fn source_of(rt: &HostRuntime, case: &Case<'_>) -> io::Result<Vec<u8>> {
+    let bytes = match case.source {
+        Given::Here(text) => repeated(rt.alloc(), text, case.repeat)?,
+        Given::File(name) => fs::read(rt, name)?,
+    };
     Ok(bytes)
 }
 
@@ -56,7 +65,7 @@ pub fn run_case(
     totals: &mut Totals,
 ) -> io::Result<()> {
     let alloc = rt.alloc();
-    let bytes = source_of(alloc, case)?;
+    let bytes = source_of(rt, case)?;
     let fails_read = case.fails_read.as_slice().to_vec(alloc)?;
     let fails_write = case.fails_write.as_slice().to_vec(alloc)?;
     let mut source = MemSource::new(bytes, fails_read, case.most_read.max(1));

@@ -7,9 +7,10 @@ ghost use Rattle.affine_rules.specs.Scoped.{binding_of, scope_of};
 use crate::scope::{Binding, Key, found};
 use affine_ast::{MemrefType, Name, Scalar};
 use indexmap::IndexMap;
+use name_hash::NameHashing;
 use shape_rules::{same_scalar, same_type};
 
-pub type Names<'a> = IndexMap<Key<'a>, Binding>;
+pub type Names<'a> = IndexMap<Key<'a>, Binding, NameHashing>;
 
 /// 2^62.
 const MOST: i64 = 4_611_686_018_427_387_904;
@@ -21,6 +22,7 @@ pub fn is_in<'a>(names: &Names<'a>, name: &'a Name) -> bool
     found(names, name).is_some()
 }
 
+#[tactic(auto, unfolding(affine_ast::specs::Rules::are_in))]
 pub fn are_in<'a>(names: &Names<'a>, used: &'a [Name]) -> bool
     ensures { result ≡ are_in (scope_of names.now.entries) used.now }
 {

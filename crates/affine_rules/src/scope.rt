@@ -7,6 +7,7 @@ ghost use Rattle.affine_rules.specs.Scoped.{binding_of, scope_of, names_of, is_k
 use affine_ast::{MemrefType, Name, Scalar};
 use affine_expr::Interval;
 use indexmap::{IndexMap, IndexSet};
+use name_hash::NameHashing;
 use std::alloc::{AllocError, Global};
 
 /// A name as a key.
@@ -46,8 +47,8 @@ pub struct Totals {
 /// so far.
 #[derive(Drop)]
 pub struct Scoped<'a> {
-    pub names: IndexMap<Key<'a>, Binding>,
-    pub released: IndexSet<Key<'a>>,
+    pub names: IndexMap<Key<'a>, Binding, NameHashing>,
+    pub released: IndexSet<Key<'a>, NameHashing>,
     pub loops: u32,
     pub ifs: u32,
     pub totals: Totals,
@@ -65,7 +66,10 @@ pub fn key_of(name: &Name) -> Key<'_>
 }
 
 /// What the name stands for, where it is in scope.
-pub fn found<'t, 'a>(names: &'t IndexMap<Key<'a>, Binding>, name: &'a Name) -> Option<&'t Binding>
+pub fn found<'t, 'a>(
+    names: &'t IndexMap<Key<'a>, Binding, NameHashing>,
+    name: &'a Name,
+) -> Option<&'t Binding>
     ensures { option_map binding_of (option_copied result) ≡ scope_of names.now.entries name.now }
 {
     names.get(&key_of(name))
@@ -73,7 +77,7 @@ pub fn found<'t, 'a>(names: &'t IndexMap<Key<'a>, Binding>, name: &'a Name) -> O
 
 /// Puts a name in scope that isn't.
 pub fn define<'a>(
-    names: &mut IndexMap<Key<'a>, Binding>,
+    names: &mut IndexMap<Key<'a>, Binding, NameHashing>,
     name: &'a Name,
     binding: Binding,
 ) -> Result<(), AllocError>
@@ -86,14 +90,17 @@ pub fn define<'a>(
 }
 
 /// Whether the dealloc of an allocation stands before.
-pub fn is_released<'a>(released: &IndexSet<Key<'a>>, name: &'a Name) -> bool
+pub fn is_released<'a>(released: &IndexSet<Key<'a>, NameHashing>, name: &'a Name) -> bool
     ensures { result ≡ names_of released.now.keys name.now }
 {
     released.contains(&key_of(name))
 }
 
 /// Notes the dealloc of an allocation whose dealloc doesn't stand before.
-pub fn release<'a>(released: &mut IndexSet<Key<'a>>, name: &'a Name) -> Result<(), AllocError>
+pub fn release<'a>(
+    released: &mut IndexSet<Key<'a>, NameHashing>,
+    name: &'a Name,
+) -> Result<(), AllocError>
     requires { names_of released.old.keys name.now ≡ false }
     ensures names { OnOk result (names_of released.new.keys ≡ put (names_of released.old.keys) name.now true) }
     ensures kept { OnOk result (take (length released.old.keys) released.new.keys ≡ released.old.keys) }
@@ -104,7 +111,7 @@ pub fn release<'a>(released: &mut IndexSet<Key<'a>>, name: &'a Name) -> Result<(
 
 impl<'a> Scoped<'a> {
     /// What stands round a module: nothing is in scope.
-    pub fn new(alloc: Global) -> Scoped<'a>
+    pub fn new(alloc: Global, hashing: NameHashing) -> Scoped<'a>
         ensures names { result.names.entries ≡ [] }
         ensures released { result.released.keys ≡ [] }
         ensures loops { result.loops ≡ 0 }
@@ -117,8 +124,8 @@ impl<'a> Scoped<'a> {
         ensures tags { result.totals.tags ≡ 0 }
     {
         Scoped {
-            names: IndexMap::new(alloc),
-            released: IndexSet::new(alloc),
+            names: IndexMap::with_hasher(alloc, hashing),
+            released: IndexSet::with_hasher(alloc, hashing),
             loops: 0,
             ifs: 0,
             totals: Totals {

@@ -17,6 +17,7 @@ use std::alloc::{AllocError, Global};
 
 type Stride = Option<(Name, Name)>;
 
+#[tactic(auto, unfolding(affine_ast::specs::Rules::are_in))]
 fn stride_in<'a>(names: &Names<'a>, stride: &'a Stride) -> bool
     ensures { result ≡ are_in (scope_of names.now.entries) (stride_names stride.now) }
 {
@@ -134,6 +135,7 @@ fn ends_bounded<'a>(
 }
 
 /// Whether the names that the start of a transfer uses are in scope.
+#[tactic(auto, unfolding(affine_ast::specs::Rules::are_in))]
 fn start_in<'a>(
     names: &Names<'a>,
     from: &'a Name,
@@ -155,7 +157,7 @@ fn start_in<'a>(
 }
 
 /// The lowest rule that the start of a transfer breaks.
-#[tactic(auto, unfolding(affine_ast::specs::Validity::rule_of_plain))]
+#[tactic(auto, unfolding(affine_ast::specs::Validity::rule_of_plain, affine_ast::specs::Rules::are_in))]
 pub fn rule_of_start<'a>(
     alloc: Global,
     scoped: &Scoped<'a>,

@@ -184,7 +184,7 @@ fn alias_definition(
 fn aliases(alloc: Global, tokens: &mut Tokens<'_>) -> Result<Aliases, Refusal>
     ensures { Takes result (many tok.at_alias spec.alias_definition [] tokens.old) tokens.new }
 {
-    let mut aliases = Aliases::new(alloc);
+    let mut aliases = Aliases::new(alloc, tokens.hashing());
     'aliases: while tokens.at_alias() {
         aliases = alias_definition(alloc, tokens, aliases)?;
     }

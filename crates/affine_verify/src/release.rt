@@ -11,6 +11,7 @@ ghost use Rattle.affine_verify.specs.Deallocs.{once_of, once_each, deallocs_in, 
 use affine_ast::{Name, Stmt, What};
 use affine_rules::{Key, is_released, release};
 use indexmap::IndexSet;
+use name_hash::NameHashing;
 use std::alloc::{AllocError, Global};
 
 /// What a statement is for the deallocs of allocations.
@@ -39,7 +40,7 @@ fn role_of(what: &What) -> Role<'_>
 }
 
 /// Notes a name, whether it is noted already or not.
-fn note<'a>(names: &mut IndexSet<Key<'a>>, name: &'a Name) -> Result<(), AllocError>
+fn note<'a>(names: &mut IndexSet<Key<'a>, NameHashing>, name: &'a Name) -> Result<(), AllocError>
     ensures { OnOk result ((m : Name) → names_of names.new.keys m ≡ (names_of names.old.keys m || same_name name.now m)) }
 {
     if !is_released(names, name) {
@@ -49,7 +50,10 @@ fn note<'a>(names: &mut IndexSet<Key<'a>>, name: &'a Name) -> Result<(), AllocEr
 }
 
 /// Notes the name of a dealloc, and of no other statement without a region.
-fn note_plain<'a>(names: &mut IndexSet<Key<'a>>, what: &'a What) -> Result<(), AllocError>
+fn note_plain<'a>(
+    names: &mut IndexSet<Key<'a>, NameHashing>,
+    what: &'a What,
+) -> Result<(), AllocError>
     requires { is_region what.now ≡ false }
     ensures { OnOk result ((m : Name) → names_of names.new.keys m ≡ (names_of names.old.keys m || nat_lt 0 (deallocs_in m what.now))) }
 {
@@ -64,7 +68,10 @@ fn note_plain<'a>(names: &mut IndexSet<Key<'a>>, what: &'a What) -> Result<(), A
 /// Notes the names of the deallocs in a statement, at every depth.
 #[cycle(noted)]
 #[tactic(auto, using(affine_ast::proofs::Nests::plains))]
-fn note_stmt<'a>(names: &mut IndexSet<Key<'a>>, stmt: &'a Stmt) -> Result<(), AllocError>
+fn note_stmt<'a>(
+    names: &mut IndexSet<Key<'a>, NameHashing>,
+    stmt: &'a Stmt,
+) -> Result<(), AllocError>
     ensures { OnOk result ((m : Name) → names_of names.new.keys m ≡ (names_of names.old.keys m || nat_lt 0 (deallocs_in m stmt.now.what))) }
 {
     match &stmt.what {
@@ -81,7 +88,10 @@ fn note_stmt<'a>(names: &mut IndexSet<Key<'a>>, stmt: &'a Stmt) -> Result<(), Al
 }
 
 #[cycle(noted)]
-fn note_list<'a>(names: &mut IndexSet<Key<'a>>, stmts: &'a [Stmt]) -> Result<(), AllocError>
+fn note_list<'a>(
+    names: &mut IndexSet<Key<'a>, NameHashing>,
+    stmts: &'a [Stmt],
+) -> Result<(), AllocError>
     ensures { OnOk result ((m : Name) → names_of names.new.keys m ≡ (names_of names.old.keys m || nat_lt 0 (deallocs m (nest stmts.now)))) }
 {
     for stmt in stmts {
@@ -94,19 +104,19 @@ fn note_list<'a>(names: &mut IndexSet<Key<'a>>, stmts: &'a [Stmt]) -> Result<(),
 #[derive(Drop)]
 pub(crate) struct Deallocs<'a> {
     /// Those that stand in the region itself.
-    own: IndexSet<Key<'a>>,
+    own: IndexSet<Key<'a>, NameHashing>,
     /// Those with a second dealloc in the region itself, or one further in.
-    more: IndexSet<Key<'a>>,
+    more: IndexSet<Key<'a>, NameHashing>,
 }
 
 impl<'a> Deallocs<'a> {
     /// Nothing is left of a region.
-    fn new(alloc: Global) -> Deallocs<'a>
+    fn new(alloc: Global, hashing: NameHashing) -> Deallocs<'a>
         ensures { Lists result Nothing }
     {
         Deallocs {
-            own: IndexSet::new(alloc),
-            more: IndexSet::new(alloc),
+            own: IndexSet::with_hasher(alloc, hashing),
+            more: IndexSet::with_hasher(alloc, hashing),
         }
     }
 
@@ -155,10 +165,14 @@ impl<'a> Deallocs<'a> {
 }
 
 /// Of each statement of a region whether what it allocates, if anything, is released exactly once, in the region itself.
-pub(crate) fn released_once(alloc: Global, stmts: &[Stmt]) -> Result<Vec<bool>, AllocError>
+pub(crate) fn released_once(
+    alloc: Global,
+    hashing: NameHashing,
+    stmts: &[Stmt],
+) -> Result<Vec<bool>, AllocError>
     ensures { IfOk result (λ once. once.items ≡ once_each stmts.now) }
 {
-    let mut deallocs = Deallocs::new(alloc);
+    let mut deallocs = Deallocs::new(alloc, hashing);
     let mut once = Vec::new(alloc);
     let length = stmts.len();
     for done in 0..length {

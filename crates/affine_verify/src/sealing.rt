@@ -8,13 +8,14 @@ use crate::fault::VerifyFault;
 use crate::walk::list;
 use affine_ast::{Module, Verified};
 use affine_rules::Scoped;
+use name_hash::NameHashing;
 use std::alloc::Global;
 
 /// The arguments, and then the statements.
 fn walked(alloc: Global, input: &Module) -> Result<(), VerifyFault>
     ensures { Answers result (first_broken input.now) }
 {
-    let mut scoped = Scoped::new(alloc);
+    let mut scoped = Scoped::new(alloc, NameHashing::of_module(input));
     let argued = arguments(alloc, input.args.as_slice(), &mut scoped);
     if argued.is_err() {
         return argued;

@@ -319,7 +319,7 @@ pub(crate) fn list<'a>(
     ensures kept { OnOk result (Extends scoped.old scoped.new) }
     ensures small { OnOk result (scoped.new.totals.statements ≤ 65536) }
 {
-    let once = released_once(alloc, stmts)?;
+    let once = released_once(alloc, *scoped.names.hasher(), stmts)?;
     for (place, next) in stmts.iter().enumerate() {
         let stepped = step(alloc, next, once[place], scoped);
         if stepped.is_err() {

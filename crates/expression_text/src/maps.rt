@@ -1,7 +1,7 @@
 // Maps, sets and their uses.
 ghost use Rattle.std.specs.Prelude.{◌≡◌, [], true, MatchResult};
 ghost use Rattle.readers.specs.Readers.{bind, exactly, listed, many, optional};
-ghost use Rattle.affine_grammar.specs.Grammar.{access_with, over};
+ghost use Rattle.affine_grammar.specs.Grammar.{access_with, no_values, over};
 ghost use Rattle.affine_grammar.specs.Reading as spec;
 ghost use Rattle.affine_grammar.specs.Token as tok;
 ghost use Rattle.affine_grammar.specs.declared.words.Leaves.TheVariants as leaves_of;
@@ -52,7 +52,8 @@ fn next_parameter(
 fn parameter_names(alloc: Global, tokens: &mut Tokens<'_>, dims: &Names) -> Result<Names, Refusal>
     ensures { Takes result (bind (spec.parameter_name dims.now []) (many (tok.at_sign 44) (spec.next_parameter dims.now)) tokens.old) tokens.new }
 {
-    let mut names = parameter_name(alloc, tokens, dims, Names::new(alloc))?;
+    let none = Names::new(alloc, tokens.hashing());
+    let mut names = parameter_name(alloc, tokens, dims, none)?;
     'names: while tokens.next_is(b',') {
         names = next_parameter(alloc, tokens, dims, names)?;
     }
@@ -71,7 +72,7 @@ fn parameter_list(
 {
     if tokens.next_is(close) {
         tokens.sign(close)?;
-        return Ok(Names::new(alloc));
+        return Ok(Names::new(alloc, tokens.hashing()));
     }
     let names = parameter_names(alloc, tokens, dims)?;
     tokens.sign(close)?;
@@ -83,7 +84,7 @@ fn symbol_list(alloc: Global, tokens: &mut Tokens<'_>, dims: &Names) -> Result<N
     ensures { Takes result (optional (tok.at_sign 91) (spec.symbol_list dims.now) [] tokens.old) tokens.new }
 {
     if !tokens.next_is(b'[') {
-        return Ok(Names::new(alloc));
+        return Ok(Names::new(alloc, tokens.hashing()));
     }
     tokens.sign(b'[')?;
     parameter_list(alloc, tokens, b']', dims)
@@ -94,7 +95,8 @@ fn params(alloc: Global, tokens: &mut Tokens<'_>) -> Result<Scope, Refusal>
     ensures { Takes result (spec.params tokens.old) tokens.new }
 {
     tokens.sign(b'(')?;
-    let dims = parameter_list(alloc, tokens, b')', &Names::new(alloc))?;
+    let none = Names::new(alloc, tokens.hashing());
+    let dims = parameter_list(alloc, tokens, b')', &none)?;
     let syms = symbol_list(alloc, tokens, &dims)?;
     Ok(Scope { dims, syms })
 }
@@ -437,6 +439,18 @@ fn subscript_list(
     Ok(fitted(alloc, results)?)
 }
 
+/// No value has stood yet.
+fn without_values(alloc: Global, tokens: &Tokens<'_>, total: u32) -> State
+    ensures { result ≡ no_values total }
+{
+    State {
+        operands: 0,
+        total,
+        dims: Names::new(alloc, tokens.hashing()),
+        syms: Names::new(alloc, tokens.hashing()),
+    }
+}
+
 #[tactic(auto, unfolding(affine_grammar::specs::Reading::subscripts))]
 pub fn subscripts(
     alloc: Global,
@@ -446,12 +460,7 @@ pub fn subscripts(
     ensures { Takes result (spec.subscripts total tokens.old) tokens.new }
 {
     tokens.sign(b'[')?;
-    let mut state = State {
-        operands: 0,
-        total,
-        dims: Names::new(alloc),
-        syms: Names::new(alloc),
-    };
+    let mut state = without_values(alloc, tokens, total);
     let results = subscript_list(alloc, tokens, &mut state)?;
     access_of(alloc, results, state)
 }

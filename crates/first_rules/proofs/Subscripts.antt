@@ -48,7 +48,7 @@ interval_dim r low high =
 
 module _ (s : Scope) (v : Name) (r : Range) (e : s v ≡ Some (Variable r)) where
   pub variable_in : are_in s (v ∷ []) ≡ true
-  unfolding is_in
+  unfolding are_in is_in
   variable_in = both (is_in s v) true (ap is_some e) refl
 
   pub value_stands : operands_stand s 1 (v ∷ []) ≡ true

@@ -9,10 +9,11 @@ use affine_ast::Name;
 use affine_expr::Interval;
 use affine_rules::Key;
 use indexmap::IndexMap;
+use name_hash::NameHashing;
 use std::alloc::{AllocError, Global};
 
 /// The intervals of names; what isn't in the table is the number 0 alone.
-pub(crate) type Ranges<'a> = IndexMap<Key<'a>, Interval>;
+pub(crate) type Ranges<'a> = IndexMap<Key<'a>, Interval, NameHashing>;
 
 /// The interval of a name before it was set.
 #[derive(Clone, Copy)]

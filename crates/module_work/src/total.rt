@@ -9,6 +9,7 @@ use crate::statements::list;
 use affine_ast::{Arg, ArgKind, Verified};
 use affine_expr::Interval;
 use indexmap::IndexMap;
+use name_hash::NameHashing;
 use std::alloc::{AllocError, Global};
 
 /// The range of an index argument.
@@ -52,7 +53,7 @@ pub fn work(alloc: Global, module: &Verified) -> Result<u128, AllocError>
     ensures { IfOk result (λ total. total ≡ work «module».now.inner) }
 {
     let module = module.module();
-    let mut ranges = IndexMap::new(alloc);
+    let mut ranges = IndexMap::with_hasher(alloc, NameHashing::of_module(module));
     arguments(module.args.as_slice(), &mut ranges)?;
     list(alloc, module.body.as_slice(), 0, &mut ranges)
 }

@@ -5,6 +5,7 @@ ghost use Rattle.name_table.specs.Numbers.{place_of, first_named};
 
 use crate::table::NameTable;
 use affine_ast::Name;
+use name_hash::NameHashing;
 use sqlite_items::Items;
 use std::alloc::{AllocError, Global};
 use std::marker::Model;
@@ -54,12 +55,12 @@ impl<T: Named> Model for NamedItems<T> {
 
 impl<T: Named> NamedItems<T> {
     /// No items.
-    pub fn new(alloc: Global) -> NamedItems<T>
+    pub fn new(alloc: Global, hashing: NameHashing) -> NamedItems<T>
         ensures { result ≡ [] }
     {
         NamedItems {
             items: Items::new(alloc),
-            places: NameTable::new(alloc),
+            places: NameTable::new(alloc, hashing),
         }
     }
 

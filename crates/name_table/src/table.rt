@@ -4,6 +4,7 @@ ghost use Rattle.std.specs.Prelude.{◌≡◌, [], OnOk, OnErr};
 ghost use Rattle.name_table.specs.Numbers.{number_in, with_number};
 
 use indexmap::IndexMap;
+use name_hash::NameHashing;
 use std::alloc::{AllocError, Global};
 use std::marker::Model;
 
@@ -11,7 +12,7 @@ use std::marker::Model;
 /// pairs, in which no name stands twice.
 #[derive(Drop)]
 pub struct NameTable {
-    numbers: IndexMap<Vec<u8>, usize>,
+    numbers: IndexMap<Vec<u8>, usize, NameHashing>,
 }
 
 impl Model for NameTable {
@@ -25,11 +26,11 @@ impl Model for NameTable {
 
 impl NameTable {
     /// No names.
-    pub fn new(alloc: Global) -> NameTable
+    pub fn new(alloc: Global, hashing: NameHashing) -> NameTable
         ensures { result ≡ [] }
     {
         NameTable {
-            numbers: IndexMap::new(alloc),
+            numbers: IndexMap::with_hasher(alloc, hashing),
         }
     }
 

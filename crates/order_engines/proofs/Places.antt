@@ -9,7 +9,7 @@ use Rattle.order_meaning.specs.Machine.{transfers_of, is_engine, held_by}
 use Rattle.prompt_meaning.specs.Device.{record_of}
 use Rattle.order_meaning.proofs.Flights.{same_some, none_some, both_ways, if_true, if_false, which}
 use Rattle.order_meaning.proofs.Sides.{same_number}
-use Rattle.order_engines.specs.declared.Flying.{Flying}
+use Rattle.order_engines.specs.declared.flying.Flying.{Flying}
 use Rattle.order_engines.specs.Flying.{flight, flights_of, IsPlaceOf, AreApart}
 
 -- none of the first k has the engine
@@ -91,6 +91,11 @@ pub value_at : {X : Type 0} (xs : List X) (k : ℕ) (x d : X) → slice_get xs k
 value_at [] k x d at = absurd (cc)
 value_at (y ∷ xs) zero x d at = same_some y x at
 value_at (y ∷ xs) (suc k) x d at = value_at xs k x d at
+
+pub flight_at : (xs : List Flying) (k : ℕ) (x : Flying) → slice_get xs k ≡ Some x → slice_get (flights_of xs) k ≡ Some (flight x)
+flight_at [] k x at = absurd (cc)
+flight_at (y ∷ xs) zero x at = ap (λ z. Some (flight z)) (same_some y x at)
+flight_at (y ∷ xs) (suc k) x at = flight_at xs k x at
 
 pub none_left : {X : Type 0} (o : Option X) → is_some o ≡ false → o ≡ None
 none_left None h = refl

@@ -4,7 +4,7 @@ use Rattle.bus_model.specs.Places.{slow_place}
 use Rattle.bus_model.specs.Engines.{Flight, flight_of, with_flight, next_in, next_out, slow_out}
 use Rattle.order_meaning.specs.Machine.{transfers_of, held_by, CanBeTaken, HasMore, HasAll}
 use Rattle.order_meaning.specs.Agree.{TagsApart}
-use Rattle.order_engines.specs.declared.Flying.{Flying}
+use Rattle.order_engines.specs.declared.flying.Flying.{Flying}
 
 abbrev pub flight : Flying → Flight
 flight f = record { transfer = f.transfer; cells = f.cells.items; moved = f.moved; engine = f.engine }
@@ -38,15 +38,17 @@ pub record Changed (fs : List Flying) (after : List Flight) (engine : ℕ) (g : 
   pub held : held_by (flights_of fs) engine ≡ Some flight
   pub changed : after ≡ with_flight (flights_of fs) flight.transfer.tag g
 
--- the places of an outstanding transfer lie within so many slow words, and its cells in its list
-pub record FliesWithin (slow : ℕ) (f : Flying) : Type 0 where
+-- an outstanding transfer has elements, their places lie within so many slow words, and their cells in its list
+pub record FliesWithin (slow : ℕ) (f : Flight) : Type 0 where
+  pub some_element : 1 ≤ f.transfer.count
   pub some_chunk : 1 ≤ f.transfer.chunk
   pub within : (e : ℕ) → e < f.transfer.count → slow_place f.transfer e < slow
   pub fits : (e : ℕ) → e < f.transfer.count → slow_place f.transfer e < 2 ^ 32
-  pub inside : f.transfer.offset + f.transfer.count ≤ length f.cells.items
+  pub inside : f.transfer.offset + f.transfer.count ≤ length f.cells
+  pub not_past : f.moved ≤ f.transfer.count
 
-abbrev pub AllFlyWithin : ℕ → List Flying → Type 0
-AllFlyWithin slow fs = (k : ℕ) (f : Flying) → slice_get fs k ≡ Some f → FliesWithin slow f
+abbrev pub AllFlyWithin : ℕ → List Flight → Type 0
+AllFlyWithin slow fs = (k : ℕ) (f : Flight) → slice_get fs k ≡ Some f → FliesWithin slow f
 
 -- an engine's next element is moved
 pub record IsMoved (slow : List ℤ) (fs : List Flying) (engine : ℕ) (slow' : List ℤ) (after : List Flight) : Type 0 where

@@ -61,7 +61,7 @@ module _ (w : List ℕ) (is_word : is_keyword w ≡ true) (same : bytes_eq w w �
 
 -- ---- steps
 
-step_told : (z : ℤ) (f : List Tok) → Optional Step (pos 1) f z → IsPositive z
+pub step_told : (z : ℤ) (f : List Tok) → Optional Step (pos 1) f z → IsPositive z
 step_told z f (inl h) = integer_given h.second.token z h.second.accepted
 step_told z f (inr h) = record { magnitude = 1; is = h.1; small = omega arith }
 

@@ -382,3 +382,8 @@ expression_of l s p t w =
 
 pub expression_told : (l : Leaves) (s : State) (f : List Tok) (p : Expr × State) → Given f → Expression l s f p → ToldExpression l s p
 expression_told l s f p g h = let t = expression_sum l s f p g h in expression_of l s p t.told (nesting_within p.0 t.within)
+
+-- the printed spelling of an expression of a given text nests within the limit, but for a negated 0
+pub expression_depth : (l : Leaves) (s : State) (f : List Tok) (p : Expr × State) → Given f → Expression l s f p → nests_within p.0 ≡ true → printed_nesting p.0 ≤ 128
+unfolding printed_nesting
+expression_depth l s f p g h n = nesting_within p.0 (expression_sum l s f p g h).within n

@@ -12,6 +12,7 @@ use Rattle.affine_ast.specs.declared.name.Name.{Name}
 use Rattle.affine_ast.specs.Spelling.{name_text}
 use Rattle.affine_grammar.specs.Token.{Tok, Class, Sign, Keyword, ValueName, AliasName, FunctionName, Number, Size, ArrowSign, Relation, Other, class_of, class, of_value, of_keyword, of_alias, of_function, of_number, of_size, value, function_name, named, string_of, all_ascii, integer, negative, positive, negated, space, within}
 use Rattle.affine_grammar.proofs.Names.{id_is_ascii, string_is}
+pub use Rattle.printed_texts.specs.Writable.{IsWritten, IsPositive}
 use Rattle.printed_texts.proofs.Pieces.{Prints}
 use Rattle.printed_texts.proofs.Marks.{IsValueName, name_piece, function_piece, within_is}
 
@@ -183,11 +184,6 @@ name_ascii w (inl i) = id_is_ascii w i
 name_ascii [] (inr d) = absurd d
 name_ascii (b ∷ w) (inr d) = digits_ascii b w d
 
--- a name as a text has it
-pub record IsWritten (n : Name) : Type 0 where
-  pub made : n.made ≡ false
-  pub form : IsValueName n.text
-
 pub named_is : (n : Name) → IsWritten n → named n.text ≡ n
 named_is n h =
     let t : string_of n.text ≡ n.text = string_is n.text (name_ascii n.text h.form) in
@@ -238,12 +234,6 @@ if_some false y x h = absurd cc
 
 pub within_some : (most n m : ℕ) → within most n ≡ Some m → m ≤ most
 within_some most n m h = let i = if_some (nat_le n most) n m h in omega (arith, within_is n most i.0, i.1)
-
--- an integer that isn't negative, in its range
-pub record IsPositive (z : ℤ) : Type 0 where
-  pub magnitude : ℕ
-  pub is : z ≡ pos magnitude
-  pub small : magnitude ≤ 9223372036854775807
 
 -- an integer behind a `-`, in its range
 pub record IsNegative (z : ℤ) : Type 0 where

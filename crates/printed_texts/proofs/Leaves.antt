@@ -45,7 +45,7 @@ room_left l d s t final h b room g = let i = not_full s h in moved_not_full l d 
 open_limit : {A : Type 0} (full : Bool) (p : Tok → Option A) (q : Piece) (line column : ℕ) → full ≡ false → limited full p (tok q line column) ≡ p (tok q line column)
 open_limit full p q line column h = ap (λ b. if b && true then None else p (tok q line column)) h
 
-counted_some : {A : Type 0} (f : A → Expr) (s : State) (o : Option A) (p : Expr × State) → counted_leaf f s o ≡ Some p → (x : A) × ((o ≡ Some x) × ((f x, counting s) ≡ p))
+pub counted_some : {A : Type 0} (f : A → Expr) (s : State) (o : Option A) (p : Expr × State) → counted_leaf f s o ≡ Some p → (x : A) × ((o ≡ Some x) × ((f x, counting s) ≡ p))
 counted_some f s (Some x) p h = let e : (f x, counting s) ≡ p = cc in (x, (refl, e))
 counted_some f s None p h = absurd cc
 
@@ -132,7 +132,7 @@ pub data IsParameter (s : State) (p : Expr × State) : Type 0 where
   IsDim : (i : ℕ) → p ≡ (e.Dim i, counting s) → i < length s.dims → IsParameter s p
   IsSym : (i : ℕ) → p ≡ (e.Sym i, counting s) → i < length s.syms → IsParameter s p
 
-parameter_is : (s : State) (w : List ℕ) (p : Expr × State) → parameter_of s w ≡ Some p → IsParameter s p
+pub parameter_is : (s : State) (w : List ℕ) (p : Expr × State) → parameter_of s w ≡ Some p → IsParameter s p
 parameter_is s w p h = by_dim (number_of w s.dims) refl h
   where
     by_sym : (o : Option ℕ) → number_of w s.syms ≡ o → counted_leaf (λ i. e.Sym i) s o ≡ Some p → IsParameter s p

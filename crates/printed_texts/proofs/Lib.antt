@@ -19,4 +19,11 @@ pub mod Modules
 pub mod Comments
 pub mod Whole
 pub mod Stable
+pub mod Operands
+pub mod Fitting
+pub mod Unnested
+pub mod Writing
+pub mod Walked
+pub mod Spelt
+pub mod SpeltTexts
 pub mod Examples

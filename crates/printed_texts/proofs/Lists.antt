@@ -25,7 +25,7 @@ fixed_same leaves.Values s = tt
 
 -- ---- commas
 
-comma_given : (most : ℕ) (several : Bool) (n : ℕ) (t : Tok) → IsGiven t → comma_within most several n t ≡ Some tt → nat_le most n ≡ false
+pub comma_given : (most : ℕ) (several : Bool) (n : ℕ) (t : Tok) → IsGiven t → comma_within most several n t ≡ Some tt → nat_le most n ≡ false
 comma_given most true n t g h = (limited_some (nat_le most n) (sign 44) t tt g.counted h).0
 comma_given most false n t g h = absurd cc
 

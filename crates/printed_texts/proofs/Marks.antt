@@ -1,5 +1,5 @@
 -- Single tokens of printed texts.
-use Rattle.std.proofs.Common.{◌≡◌, ℕ, ◌==◌, ◌&&◌, ◌||◌, ◌≤◌, ◌<◌, ◌^◌, not, Bool, true, false, cond, if◌then◌else◌, List, [], ◌∷◌, ◌++◌, slice_index, length, Option, Some, None, decimal, refl, sym, ap, subst, ◌⊎◌, inl, inr, bytes_eq, codes, arith, suc, nat_le}
+use Rattle.std.proofs.Common.{◌≡◌, ℕ, ◌==◌, ◌&&◌, ◌||◌, ◌≤◌, ◌<◌, ◌^◌, not, Bool, true, false, cond, if◌then◌else◌, List, [], ◌∷◌, ◌++◌, slice_index, length, Option, Some, None, decimal, refl, sym, ap, subst, inl, inr, bytes_eq, codes, arith, suc, nat_le}
 use Rattle.std.proofs.lemmas.Bool.Decides.{nat_tests}
 use Rattle.std.proofs.lemmas.Str.Parse.{digit_from_value}
 use Rattle.std.proofs.lemmas.Fmt.{decimal_is_IsNumeral_wide}
@@ -13,6 +13,7 @@ use Rattle.affine_lex.specs.declared.token.Kind.TheVariants as k
 use Rattle.affine_lex.proofs.Tests.{true_no, and_left, and_right}
 use Rattle.affine_lex.proofs.Written.{AreCut, cut_token, word_again, value_again, value_digits_again, symbol_again, int_again, sign_again, arrow_again, greater_equal_again, less_equal_again, equal_again, is_pair}
 use Rattle.affine_grammar.specs.Token.{Tok, sign, word}
+pub use Rattle.printed_texts.specs.Writable.{IsValueName}
 use Rattle.printed_texts.proofs.Pieces.{tok, ends, is_word_first, is_word_byte, is_id_byte, is_white, Cuts, Closes, Prints, piece, tight_sign, blank_before, blank_behind}
 
 -- ---- what ends a token
@@ -154,10 +155,6 @@ pub keyword : (w : List ℕ) → is_keyword w ≡ true → bytes_eq w w ≡ true
 keyword w h e = word_piece w (word w) tt h (λ line column. ap (λ b. if b then Some tt else None) e)
 
 -- ---- names
-
--- the name of a value, without its sign
-abbrev pub IsValueName : List ℕ → Type 0
-IsValueName w = IsId w ⊎ IsDigits w
 
 name_cut : (w : List ℕ) → IsValueName w → Cuts true (37 ∷ w) ((k.Value, 37 ∷ w) ∷ [])
 name_cut w (inl i) = λ rest qs c h. cut_token (after_word []) k.Value 37 w rest qs refl refl (value_again false w rest i (ends_id rest c)) h

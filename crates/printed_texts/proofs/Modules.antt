@@ -23,13 +23,14 @@ use Rattle.affine_grammar.specs.Token.{Tok, sign, word, value, lined, with_line}
 use Rattle.affine_grammar.specs.GrammarFile.{RangeEnd, Range, ArgumentKind, Argument, NextArgument, Arguments, Statements, Region, FunctionBody, Function, AliasBody, AliasDefinition, ModuleOf, File}
 use Rattle.printed_texts.specs.Nesting.{StatementsNest, ModuleNests}
 use Rattle.printed_texts.specs.Lines.{unlined_argument, AreSameButLines}
+pub use Rattle.printed_texts.specs.Writable.{KindFits, ArgumentFits, ArgumentsFit}
 use Rattle.printed_texts.proofs.Pieces.{Are, parted, Joins, Cuts, join_cut, Prints, seq, prints_as, in_left, in_right, giving, nothing, loosen, blank_before, blank_behind}
 use Rattle.printed_texts.proofs.Marks.{keyword, equals_sign, open_brace, close_brace, open_paren, close_paren, open_square, close_square, comma_sign, colon_sign, comma}
-use Rattle.printed_texts.proofs.Given.{Given, IsWritten, given_left, given_right, given_one, value_given, value_prints, function_given, function_prints}
+use Rattle.printed_texts.proofs.Given.{Given, given_left, given_right, given_one, value_given, value_prints, function_given, function_prints}
 use Rattle.printed_texts.proofs.Lists.{more_text, more_joins}
 use Rattle.printed_texts.proofs.Maps.{map_told, set_told}
 use Rattle.printed_texts.proofs.Uses.{BodyTold, AliasesTold}
-use Rattle.printed_texts.proofs.Types.{InRange, signed_told, signed_again, TypeTold, memref_told, memref_again}
+use Rattle.printed_texts.proofs.Types.{InRange, signed_told, signed_again, memref_told, memref_again}
 use Rattle.printed_texts.proofs.Unlined.{SameStatements, same_append, append_nests, same_cons}
 use Rattle.printed_texts.proofs.Blocks.{Writes, writes_seq, writes_as, writes_blank, AllWhite, LinesPrints, ToldLines, statements_told, region_told, opening, closing, margin_cut, lined_some}
 
@@ -54,16 +55,6 @@ aliases_told b c f g t (more _ d _ _ left right p i m) =
 
 -- ---- arguments
 
--- the range of an index, and what an argument is
-abbrev pub KindTold : ArgKind → Type 0
-KindTold (kind.Memref ty) = TypeTold ty
-KindTold (kind.Index None) = Unit {0}
-KindTold (kind.Index (Some r)) = InRange r.least × InRange r.greatest
-
-pub record ArgTold (a : Arg) : Type 0 where
-  pub name : IsWritten a.name
-  pub kind : KindTold a.kind
-
 range_end_told : (z : ℤ) (f : List Tok) → RangeEnd f z → InRange z
 range_end_told z f h = subst InRange (sym (same h.value h.right h.second)) (signed_told h.value h.left h.first)
   where
@@ -71,24 +62,24 @@ range_end_told z f h = subst InRange (sym (same h.value h.right h.second)) (sign
     same y g (inl i) = i.second.second.1
     same y g (inr i) = i.1
 
-range_told : (r : Option Interval) (f : List Tok) → Optional Range None f r → KindTold (kind.Index r)
-range_told r f (inr h) = subst (λ x. KindTold (kind.Index x)) (sym h.1) tt
+range_told : (r : Option Interval) (f : List Tok) → Optional Range None f r → KindFits (kind.Index r)
+range_told r f (inr h) = subst (λ x. KindFits (kind.Index x)) (sym h.1) tt
 range_told r f (inl h) =
     let i = h.second.second.second in
     let j = i.first.second in
     let a = j.first in
     let b = a.second.second in
-    subst (λ x. KindTold (kind.Index x)) (sym (i.second.second.1 ∙ j.second.second.1 ∙ b.second.1)) (range_end_told a.value a.left a.first, range_end_told b.value b.left b.first)
+    subst (λ x. KindFits (kind.Index x)) (sym (i.second.second.1 ∙ j.second.second.1 ∙ b.second.1)) (range_end_told a.value a.left a.first, range_end_told b.value b.left b.first)
 
-kind_told : (k : ArgKind) (f : List Tok) → ArgumentKind f k → KindTold k
-kind_told k f (inl h) = let i = h.second in subst KindTold (sym i.second.1) (range_told i.value i.left i.first)
-kind_told k f (inr h) = subst KindTold (sym h.second.1) (memref_told h.value h.left h.first)
+kind_told : (k : ArgKind) (f : List Tok) → ArgumentKind f k → KindFits k
+kind_told k f (inl h) = let i = h.second in subst KindFits (sym i.second.1) (range_told i.value i.left i.first)
+kind_told k f (inr h) = subst KindFits (sym h.second.1) (memref_told h.value h.left h.first)
 
 -- one argument more
 record ToldArgument (b c : List Arg) : Type 0 where
   arg : Arg
   arg_is : c ≡ b ++ arg ∷ []
-  told : ArgTold arg
+  told : ArgumentFits arg
 
 argument_told : (b c : List Arg) (f : List Tok) → Given f → Argument b f c → ToldArgument b c
 argument_told b c f g h =
@@ -99,14 +90,10 @@ argument_told b c f g h =
       told = record { name = value_given h.first.token h.value.1 (given_one h.left h.first.token h.first.alone (given_left f h.left h.right h.parts g)) (lined_some value h.first.token h.value h.first.accepted); kind = kind_told i.value i.left i.first };
     }
 
-abbrev pub AllTold : List Arg → Type 0
-AllTold [] = Unit {0}
-AllTold (a ∷ args) = ArgTold a × AllTold args
-
 record ToldArguments (b c : List Arg) : Type 0 where
   items : List Arg
   items_are : c ≡ b ++ items
-  told : AllTold items
+  told : ArgumentsFit items
 
 more_arguments : (b c : List Arg) (f : List Tok) → Given f → Many NextArgument b f c → ToldArguments b c
 more_arguments b c f g (none _ _ p) = record { items = []; items_are = sym (append-nil b); told = tt }
@@ -115,21 +102,21 @@ more_arguments b c f g (more _ d _ _ left right p i m) =
     let r = more_arguments d c right (given_right f left right p g) m in
     record { items = t.arg ∷ r.items; items_are = r.items_are ∙ ap (λ l. l ++ r.items) t.arg_is ∙ append_assoc b (t.arg ∷ []) r.items; told = (t.told, r.told) }
 
-arguments_told : (args : List Arg) (f : List Tok) → Given f → Arguments f args → AllTold args
+arguments_told : (args : List Arg) (f : List Tok) → Given f → Arguments f args → ArgumentsFit args
 arguments_told args f g h = by_case h.second
   where
     gr : Given h.right
     gr = given_right f h.left h.right h.parts g
 
-    by_case : Listed (sign 41) [] (Both (Argument []) (Many NextArgument)) h.right args → AllTold args
-    by_case (inl i) = subst AllTold (sym i.second.1) tt
+    by_case : Listed (sign 41) [] (Both (Argument []) (Many NextArgument)) h.right args → ArgumentsFit args
+    by_case (inl i) = subst ArgumentsFit (sym i.second.1) tt
     by_case (inr i) =
         let j = i.first in
         let g1 = given_left h.right i.left i.right i.parts gr in
         let t = argument_told [] j.value j.left (given_left i.left j.left j.right j.parts g1) j.first in
         let r = more_arguments j.value i.value j.right (given_right i.left j.left j.right j.parts g1) j.second in
         let e : i.value ≡ t.arg ∷ r.items = r.items_are ∙ ap (λ l. l ++ r.items) t.arg_is in
-        subst AllTold (sym (i.second.second.1 ∙ e)) (t.told, r.told)
+        subst ArgumentsFit (sym (i.second.second.1 ∙ e)) (t.told, r.told)
 
 -- ---- arguments, printed
 
@@ -147,7 +134,7 @@ range_again r a b =
     blank_before (in_left (seq open_brace tt (seq (keyword (codes "copy.range") refl refl) (λ s c. refl) (seq (blank_before (blank_behind equals_sign)) tt (seq squares tt (giving (λ _. Some r) close_brace)))))) in
     prints_as whole (simp append_assoc refl)
 
-kind_again : (k : ArgKind) → KindTold k → Prints true (kind_text k) ArgumentKind k
+kind_again : (k : ArgKind) → KindFits k → Prints true (kind_text k) ArgumentKind k
 unfolding range_text
 kind_again (kind.Memref ty) t = in_right (giving (λ ty. kind.Memref ty) (memref_again ty t))
 kind_again (kind.Index None) t = in_left (prints_as (seq (keyword (codes "index") refl refl) (λ r c. c) (giving (λ r. kind.Index r) (in_right {L = Range} (nothing {o = true} None)))) refl)
@@ -168,7 +155,7 @@ record ArgumentPrints (a : Arg) : Type 0 where
   cut : Cuts true (arg_text a) pieces
   spelled : (us : List Tok) → Are pieces us → (acc : List Arg) → SpelledArgument a us acc
 
-argument_again : (a : Arg) → ArgTold a → ArgumentPrints a
+argument_again : (a : Arg) → ArgumentFits a → ArgumentPrints a
 unfolding arg_text
 argument_again a t =
     let p : Prints true (name_text a.name ++ (codes ": " ++ kind_text a.kind)) NamedKind (a.name, a.kind) =
@@ -206,7 +193,7 @@ record MorePrints (args : List Arg) : Type 0 where
   cut : Cuts true (more_text arg_text args) pieces
   spelled : (us : List Tok) → Are pieces us → (acc : List Arg) → SpelledArguments args us acc
 
-more_again : (args : List Arg) → AllTold args → MorePrints args
+more_again : (args : List Arg) → ArgumentsFit args → MorePrints args
 more_again [] t = record { pieces = []; cut = λ rest qs c h. h; spelled = λ us a acc. record { stands = []; same = refl; spelled = subst (λ l. Many NextArgument acc us l) (sym (append-nil acc)) (none acc us a) } }
 more_again (x ∷ args) t =
     let p = argument_again x t.0 in
@@ -230,7 +217,7 @@ more_again (x ∷ args) t =
 abbrev SameArguments : List Arg → List Arg → Type 0
 SameArguments args stands = map unlined_argument args ≡ map unlined_argument stands
 
-arguments_again : (args : List Arg) → AllTold args → Writes false (codes "(" ++ (listed arg_text args ++ codes ")")) Arguments (SameArguments args)
+arguments_again : (args : List Arg) → ArgumentsFit args → Writes false (codes "(" ++ (listed arg_text args ++ codes ")")) Arguments (SameArguments args)
 unfolding listed
 arguments_again [] t =
     let p : Prints false (codes "()") Arguments [] = seq open_paren tt (in_left (giving (λ _. []) close_paren)) in
@@ -335,7 +322,7 @@ body_again ss line after p = writes_seq opening tt (writes_ended (returned_again
 -- a function of a given text
 pub record ToldFunction (m : Module) : Type 0 where
   pub name : IsId m.name
-  pub args : AllTold m.args
+  pub args : ArgumentsFit m.args
   pub stmts : List Stmt
   pub line : ℕ
   pub body : m.body ≡ stmts ++ returning line ∷ []

@@ -23,7 +23,7 @@ length_params letter a (suc n) = omega (arith, length_params letter (a + 1) n)
 
 -- ---- parameters that are new
 
-next_none : (o : Option ℕ) → next o ≡ None → o ≡ None
+pub next_none : (o : Option ℕ) → next o ≡ None → o ≡ None
 next_none (Some i) h = absurd cc
 next_none None h = refl
 

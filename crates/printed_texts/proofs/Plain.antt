@@ -25,11 +25,12 @@ use Rattle.affine_grammar.specs.declared.words.Definition.TheVariants as definit
 use Rattle.affine_grammar.specs.Token.{Tok, value, definition_word, definition_of, action_word, action_of}
 use Rattle.affine_grammar.specs.GrammarFile.{Typed, Regions, Defined, Acted, Part, Stride}
 use Rattle.printed_texts.specs.Nesting.{StatementsNest, UseNests}
+pub use Rattle.printed_texts.specs.Writable.{StrideWritten}
 use Rattle.printed_texts.proofs.Pieces.{ends, Prints, seq, in_left, in_right, giving, nothing, loosen, blank_before, blank_behind}
 use Rattle.printed_texts.proofs.Marks.{keyword, word_piece, open_paren, close_paren, comma, colon}
 use Rattle.printed_texts.proofs.Given.{Given, IsWritten, given_left, given_right, given_one, value_given, value_prints}
 use Rattle.printed_texts.proofs.Uses.{AliasesTold, ToldUse, use_told, ToldSubscripts, subscripts_told, AllWritten, brackets_told, brackets_again}
-use Rattle.printed_texts.proofs.Types.{InRange, signed_told, signed_again, TypeTold, memref_told, memref_again, typed_again, scalar_again}
+use Rattle.printed_texts.proofs.Types.{InRange, signed_told, signed_again, TypeFits, memref_told, memref_again, typed_again, scalar_again}
 
 -- ---- statements with a result
 
@@ -100,7 +101,7 @@ module _ (r : Name) (total : ℕ) where
         seq (pick_again p) tt (loosen (giving (λ (q : Access × ℕ). let x : What × ℕ = (what.Value r p q.0, q.1) in x) (t.again true (inl refl) (t.small h) m.0)));
   }
 
-  pub load_definition : (m : Name) (at : Access) (behind : ℕ) (ty : MemrefType) → IsWritten m → ToldSubscripts at total behind → TypeTold ty → ToldDefinition r (what.Load r m at ty) total behind
+  pub load_definition : (m : Name) (at : Access) (behind : ℕ) (ty : MemrefType) → IsWritten m → ToldSubscripts at total behind → TypeFits ty → ToldDefinition r (what.Load r m at ty) total behind
   unfolding load_text defined_text place_text subscripts_text
   load_definition m at behind ty w t y = record {
     text = codes "affine.load " ++ (name_text m ++ (subscripts_text at ++ typed_text ty));
@@ -111,7 +112,7 @@ module _ (r : Name) (total : ℕ) where
         seq load_word tt (seq (value_prints m w) (λ r c. refl) (seq (t.again (t.small h) k.0) tt (typed_again (λ ty. let x : What × ℕ = (what.Load r m at ty, behind) in x) ty y)));
   }
 
-  pub raw_load_definition : (m : Name) (vs : List Name) (ty : MemrefType) → IsWritten m → AllWritten vs → TypeTold ty → ToldDefinition r (what.RawLoad r m vs ty) total total
+  pub raw_load_definition : (m : Name) (vs : List Name) (ty : MemrefType) → IsWritten m → AllWritten vs → TypeFits ty → ToldDefinition r (what.RawLoad r m vs ty) total total
   unfolding raw_load_text defined_text raw_place_text
   raw_load_definition m vs ty w a y = record {
     text = codes "memref.load " ++ (name_text m ++ ((codes "[" ++ (names_text vs ++ codes "]")) ++ typed_text ty));
@@ -147,7 +148,7 @@ module _ (r : Name) (total : ℕ) where
     again = λ h line n. seq (cast_again c) tt (seq (value_prints v w) (λ r c. refl) (seq colon tt (seq (scalar_again from) (λ r c. refl) (seq (blank_before (blank_behind (keyword (codes "to") refl refl))) tt (giving (λ to. let x : What × ℕ = (what.Cast r c v from to, total) in x) (scalar_again to))))));
   }
 
-  pub alloc_definition : (ty : MemrefType) → TypeTold ty → ToldDefinition r (what.Alloc r ty) total total
+  pub alloc_definition : (ty : MemrefType) → TypeFits ty → ToldDefinition r (what.Alloc r ty) total total
   unfolding alloc_text defined_text
   alloc_definition ty y = record {
     text = codes "memref.alloc" ++ (codes "(" ++ (codes ")" ++ typed_text ty));
@@ -157,11 +158,11 @@ module _ (r : Name) (total : ℕ) where
   }
 
 -- a value of a given text
-value_of : (f : List Tok) (n : Name) → Given f → One value f n → IsWritten n
+pub value_of : (f : List Tok) (n : Name) → Given f → One value f n → IsWritten n
 value_of f n g h = value_given h.token n (given_one f h.token h.alone g) h.accepted
 
 -- a type behind its colon
-typed_told : {A : Type 0} (make : MemrefType → A) (x : A) (f : List Tok) → Typed make f x → (ty : MemrefType) × (TypeTold ty × (x ≡ make ty))
+pub typed_told : {A : Type 0} (make : MemrefType → A) (x : A) (f : List Tok) → Typed make f x → (ty : MemrefType) × (TypeFits ty × (x ≡ make ty))
 typed_told make x f h = (h.second.value, (memref_told h.second.value h.second.left h.second.first, h.second.second.1))
 
 abbrev Defines : Name → ℕ → What × ℕ → Type 0
@@ -253,12 +254,7 @@ part_again : (m : Name) (at : Access) (total behind : ℕ) → ToldPart m at tot
 unfolding subscripts_text
 part_again m at total behind t h n = seq (value_prints m t.name) (λ r c. refl) (giving (λ (p : Access × ℕ). let x : Name × (Access × ℕ) = (m, p) in x) (t.subscripts.again (t.subscripts.small h) n))
 
--- the stride and the chunk
-abbrev pub StrideWritten : Option (Name × Name) → Type 0
-StrideWritten None = Unit {0}
-StrideWritten (Some p) = IsWritten p.0 × IsWritten p.1
-
-stride_told : (s : Option (Name × Name)) (f : List Tok) → Given f → Optional Stride None f s → StrideWritten s
+pub stride_told : (s : Option (Name × Name)) (f : List Tok) → Given f → Optional Stride None f s → StrideWritten s
 stride_told s f g (inr h) = subst StrideWritten (sym h.1) tt
 stride_told s f g (inl h) =
     let i = h.second in
@@ -284,7 +280,7 @@ start_pieces : (w k o a aa b bb c cd n s t u v : List ℕ)
 start_pieces w k o a aa b bb c cd n s t u v = simp (append_assoc, append-nil) refl
 
 module _ (R : Regions) (total : ℕ) where
-  pub store_action : (x m : Name) (at : Access) (behind : ℕ) (ty : MemrefType) → IsWritten x → IsWritten m → ToldSubscripts at total behind → TypeTold ty → ToldAction R (what.Store x m at ty) total behind
+  pub store_action : (x m : Name) (at : Access) (behind : ℕ) (ty : MemrefType) → IsWritten x → IsWritten m → ToldSubscripts at total behind → TypeFits ty → ToldAction R (what.Store x m at ty) total behind
   unfolding store_text named_text place_text subscripts_text
   store_action x m at behind ty v w t y = record {
     text = codes "affine.store " ++ (name_text x ++ (codes ", " ++ (name_text m ++ (subscripts_text at ++ typed_text ty))));
@@ -295,7 +291,7 @@ module _ (R : Regions) (total : ℕ) where
         seq store_word tt (seq (value_prints x v) (λ r c. refl) (seq comma tt (seq (value_prints m w) (λ r c. refl) (seq (t.again (t.small h) k.0) tt (typed_again (λ ty. let p : What × ℕ = (what.Store x m at ty, behind) in p) ty y)))));
   }
 
-  pub raw_store_action : (x m : Name) (vs : List Name) (ty : MemrefType) → IsWritten x → IsWritten m → AllWritten vs → TypeTold ty → ToldAction R (what.RawStore x m vs ty) total total
+  pub raw_store_action : (x m : Name) (vs : List Name) (ty : MemrefType) → IsWritten x → IsWritten m → AllWritten vs → TypeFits ty → ToldAction R (what.RawStore x m vs ty) total total
   unfolding raw_store_text named_text raw_place_text
   raw_store_action x m vs ty v w a y = record {
     text = codes "memref.store " ++ (name_text x ++ (codes ", " ++ (name_text m ++ ((codes "[" ++ (names_text vs ++ codes "]")) ++ typed_text ty))));
@@ -304,7 +300,7 @@ module _ (R : Regions) (total : ℕ) where
     again = λ h line n. seq raw_store_word tt (seq (value_prints x v) (λ r c. refl) (seq comma tt (seq (value_prints m w) (λ r c. refl) (seq (brackets_again vs a) tt (typed_again (λ ty. let p : What × ℕ = (what.RawStore x m vs ty, total) in p) ty y)))));
   }
 
-  pub dealloc_action : (m : Name) (ty : MemrefType) → IsWritten m → TypeTold ty → ToldAction R (what.Dealloc m ty) total total
+  pub dealloc_action : (m : Name) (ty : MemrefType) → IsWritten m → TypeFits ty → ToldAction R (what.Dealloc m ty) total total
   unfolding dealloc_text named_text typed_text
   dealloc_action m ty w y = record {
     text = codes "memref.dealloc " ++ (name_text m ++ typed_text ty);
@@ -313,7 +309,7 @@ module _ (R : Regions) (total : ℕ) where
     again = λ h line n. seq dealloc_word tt (seq (value_prints m w) (λ r c. refl) (typed_again (λ ty. let p : What × ℕ = (what.Dealloc m ty, total) in p) ty y));
   }
 
-  pub wait_action : (m : Name) (at : Access) (behind : ℕ) (n : Name) (ty : MemrefType) → ToldPart m at total behind → IsWritten n → TypeTold ty → ToldAction R (what.Wait m at n ty) total behind
+  pub wait_action : (m : Name) (at : Access) (behind : ℕ) (n : Name) (ty : MemrefType) → ToldPart m at total behind → IsWritten n → TypeFits ty → ToldAction R (what.Wait m at n ty) total behind
   unfolding wait_text first_place_text named_text typed_text
   wait_action m at behind n ty t w y = record {
     text = codes "affine.dma_wait " ++ ((name_text m ++ subscripts_text at) ++ (codes ", " ++ (name_text n ++ typed_text ty)));
@@ -325,7 +321,7 @@ module _ (R : Regions) (total : ℕ) where
   }
 
   pub start_action : (a : Name) (aa : Access) (b : Name) (bb : Access) (c : Name) (cc' : Access) (n : Name) (s : Option (Name × Name)) (t u v : MemrefType) (n1 n2 n3 : ℕ)
-      → ToldPart a aa total n1 → ToldPart b bb n1 n2 → ToldPart c cc' n2 n3 → IsWritten n → StrideWritten s → TypeTold t → TypeTold u → TypeTold v → ToldAction R (what.Start a aa b bb c cc' n s (t ∷ u ∷ v ∷ [])) total n3
+      → ToldPart a aa total n1 → ToldPart b bb n1 n2 → ToldPart c cc' n2 n3 → IsWritten n → StrideWritten s → TypeFits t → TypeFits u → TypeFits v → ToldAction R (what.Start a aa b bb c cc' n s (t ∷ u ∷ v ∷ [])) total n3
   unfolding ends_text first_place_text named_text pair_text place_text amount_text listed
   start_action a aa b bb c cc' n s t u v n1 n2 n3 pa pb pc wn ws wt wu wv = record {
     text = codes "affine.dma_start " ++ ((name_text a ++ subscripts_text aa) ++ (codes ", " ++ ((name_text b ++ subscripts_text bb) ++ (codes ", " ++ ((name_text c ++ subscripts_text cc') ++ (codes ", " ++ (name_text n ++ (stride_text s ++ (codes " : " ++ (memref_text t ++ (codes ", " ++ (memref_text u ++ (codes ", " ++ memref_text v)))))))))))));

@@ -219,7 +219,7 @@ le_false a b h = grind (arith, nat_tests)
 not_le : (a b : ℕ) → b < a → nat_le a b ≡ false
 not_le a b h = grind (arith, nat_tests)
 
-full_by : (operands total : ℕ) → operands < 256 → total < 1048576 → (nat_le 256 operands || nat_le 1048576 total) ≡ false
+pub full_by : (operands total : ℕ) → operands < 256 → total < 1048576 → (nat_le 256 operands || nat_le 1048576 total) ≡ false
 full_by operands total a b = ap (λ v. v || nat_le 1048576 total) (not_le 256 operands a) ∙ not_le 1048576 total b
 
 pub not_full : (s : State) → is_full s ≡ false → (s.operands < 256) × (s.total < 1048576)

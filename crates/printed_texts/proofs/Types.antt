@@ -19,6 +19,7 @@ use Rattle.affine_ast.specs.Spelling.{element_text, scalar_text, size_text, spac
 use Rattle.affine_grammar.specs.Token.{Tok, class, sign, integer, negative, size, space, within, element, element_of, scalar, scalar_of}
 use Rattle.affine_grammar.specs.Grammar.{SpaceType, Space, Shape, Memref, Signed}
 use Rattle.affine_grammar.specs.GrammarFile.{Typed}
+pub use Rattle.printed_texts.specs.Writable.{AllSmall, TypeFits, InRange, Positive, Negative}
 use Rattle.printed_texts.proofs.Pieces.{tok, Are, parted, ends, Closes, Joins, Cuts, Prints, seq, prints_as, in_left, in_right, giving, nothing, blank_before, blank_behind}
 use Rattle.printed_texts.proofs.Marks.{ends_id, id_word, word_form, word_piece, number_piece, minus_then, greater_sign, comma_sign, colon_sign, decimal_digits, decimal_value, digit_no_white, digit_no_slash, digits_no_arrow, is_within, suc_no}
 use Rattle.printed_texts.proofs.Given.{within_some, of_size_some, integer_given, negative_given, space_given}
@@ -98,10 +99,6 @@ sizes_cut (b ∷ w) rest qs i h =
     cut_token (after_punct (after_word (codes "memref")) 60) k.Sizes b (w ++ 120 ∷ []) rest qs (digit_no_white b i.0) (digit_no_slash b i.0)
     (subst (λ l. ◌≡◌ {A = Lexeme} (token true l) (k.Sizes, length (b ∷ (w ++ 120 ∷ [])))) e (sizes_token (b ∷ w) rest i ∙ ap (λ m. let o : Lexeme = (k.Sizes, m) in o) n)) h
 
-abbrev pub AllSmall : List ℕ → Type 0
-AllSmall [] = Unit {0}
-AllSmall (n ∷ ns) = (n ≤ 4294967295) × AllSmall ns
-
 -- one size more
 abbrev OneSize : List ℕ → Lang Tok (List ℕ)
 OneSize = Linked (λ ns. size) (λ ns n. Nothing (ns ++ n ∷ []))
@@ -143,11 +140,6 @@ sizes_again {B = B} {K = K} {o = o} {b = b} {y = y} (n ∷ ns) acc h p =
 
 -- ---- memref types
 
--- a type of a given text
-pub record TypeTold (ty : MemrefType) : Type 0 where
-  pub sizes : AllSmall ty.sizes
-  pub space : ty.space ≤ 255
-
 small_append : (ns : List ℕ) (n : ℕ) → AllSmall ns → n ≤ 4294967295 → AllSmall (ns ++ n ∷ [])
 small_append [] n a h = (h, tt)
 small_append (m ∷ ns) n a h = (a.0, small_append ns n a.1 h)
@@ -169,12 +161,12 @@ space_told n f (inl h) =
     same m g (inl j) = j.second.second.1
     same m g (inr j) = j.1
 
-pub memref_told : (ty : MemrefType) (f : List Tok) → Memref f ty → TypeTold ty
+pub memref_told : (ty : MemrefType) (f : List Tok) → Memref f ty → TypeFits ty
 memref_told ty f h =
     let i = h.second.second in
     let j = i.first in
     let s = j.second.second in
-    subst TypeTold (sym (i.second.second.1 ∙ s.second.1)) (record { sizes = sizes_told [] j.value j.left tt j.first; space = space_told s.value s.left s.first })
+    subst TypeFits (sym (i.second.second.1 ∙ s.second.1)) (record { sizes = sizes_told [] j.value j.left tt j.first; space = space_told s.value s.left s.first })
 
 no_equals : (b : ℕ) → is_ascii_digit b ≡ true → (b == 61) ≡ false
 no_equals b h = grind (arith, nat_tests)
@@ -196,7 +188,7 @@ shape_no_equals (n ∷ ns) e r h =
     let q : decimal n ++ (120 ∷ (flat_map size_text ns ++ (element_text e ++ r))) ≡ ((decimal n ++ codes "x") ++ flat_map size_text ns) ++ (element_text e ++ r) = simp append_assoc refl in
     subst (λ l. (slice_index l 0 == 61) ≡ false) q (digits_no_equals (decimal n) (120 ∷ (flat_map size_text ns ++ (element_text e ++ r))) (decimal_digits n (omega (arith, h.0))))
 
-pub memref_again : (ty : MemrefType) → TypeTold ty → Prints true (memref_text ty) Memref ty
+pub memref_again : (ty : MemrefType) → TypeFits ty → Prints true (memref_text ty) Memref ty
 unfolding memref_text
 memref_again ty t =
     let el_part : SizedPrints true (element_text ty.element ++ space_text ty.space) (Both (One element) (λ x. Both (Optional Space 0) (λ s. Nothing (record { sizes = ty.sizes; element = x; space = s })))) ty =
@@ -227,7 +219,7 @@ memref_again ty t =
           };
     }
 
-pub typed_again : {A : Type 0} (f : MemrefType → A) (ty : MemrefType) → TypeTold ty → Prints true (typed_text ty) (Typed f) (f ty)
+pub typed_again : {A : Type 0} (f : MemrefType → A) (ty : MemrefType) → TypeFits ty → Prints true (typed_text ty) (Typed f) (f ty)
 unfolding typed_text
 typed_again f ty t = seq (blank_before (blank_behind colon_sign)) tt (giving f (memref_again ty t))
 
@@ -241,12 +233,7 @@ scalar_again sc.Index = word_piece (codes "index") scalar sc.Index refl (λ line
 
 -- ---- integers
 
--- an integer in the range of 64 bits
-pub data InRange (z : ℤ) : Type 0 where
-  Positive : (n : ℕ) → z ≡ pos n → n ≤ 9223372036854775807 → InRange z
-  Negative : (n : ℕ) → z ≡ negsuc n → suc n ≤ 9223372036854775808 → InRange z
-
-negative_range : (n : ℕ) (z : ℤ) → z ≡ neg_ℤ (pos n) → n ≤ 9223372036854775808 → InRange z
+pub negative_range : (n : ℕ) (z : ℤ) → z ≡ neg_ℤ (pos n) → n ≤ 9223372036854775808 → InRange z
 negative_range zero z e h = Positive 0 e (omega arith)
 negative_range (suc n) z e h = Negative n e h
 

@@ -18,6 +18,7 @@ use Rattle.affine_grammar.specs.Token.{Tok, class, sign, alias_in, map_body, map
 use Rattle.affine_grammar.specs.Grammar as grammar
 use Rattle.affine_grammar.specs.Grammar.{Result, NextResult, Map0, Set0, OneValue, Values, SymbolValues, Operands, SomeMap, SomeSet, Use, no_values, access_with, Subscripts, NextValue, Brackets}
 use Rattle.printed_texts.specs.Nesting.{AllNest, RowsNest, UseNests}
+pub use Rattle.printed_texts.specs.Writable.{AllWritten}
 use Rattle.printed_texts.proofs.Pieces.{Prints, seq, prints_as, in_left, in_right, giving, nothing, no_item, item_then}
 use Rattle.printed_texts.proofs.Marks.{open_square, close_square, comma}
 use Rattle.printed_texts.proofs.Given.{Given, IsWritten, given_left, given_right, given_one, value_given, value_prints, of_alias_some}
@@ -28,10 +29,6 @@ use Rattle.printed_texts.proofs.Lists.{more_text, more_joins, ToldList, list_tol
 use Rattle.printed_texts.proofs.Maps.{map_text, FitsSeveral, ToldMap, map_told, set_head_text, ToldSet, set_told}
 
 -- ---- names
-
-abbrev pub AllWritten : List Name → Type 0
-AllWritten [] = Unit {0}
-AllWritten (n ∷ names) = IsWritten n × AllWritten names
 
 -- the separators and values behind the first
 abbrev NextOne : List Name → Lang Tok (List Name)
@@ -173,7 +170,7 @@ alias_told w (b ∷ aliases) a h e = by_test (alias_told w aliases a h.1) (bytes
     by_test ih true q = let r : b ≡ a = cc in subst (λ (x : Alias). BodyTold x.body x.operands) r h.0
     by_test ih false q = ih q
 
-brings_some : {A : Type 0} (counted : Bool) (total : ℕ) (x : A) (p : A × ℕ) → counted ≡ true → brings counted total x ≡ Some p → (total ≤ 1048576) × ((x, total) ≡ p)
+pub brings_some : {A : Type 0} (counted : Bool) (total : ℕ) (x : A) (p : A × ℕ) → counted ≡ true → brings counted total x ≡ Some p → (total ≤ 1048576) × ((x, total) ≡ p)
 brings_some counted total x p c h = by_test (nat_le total 1048576) refl (subst (λ b. (if b && not (nat_le total 1048576) then None else Some (x, total)) ≡ Some p) c h)
   where
     le_true : (v : Bool) → nat_le total 1048576 ≡ v → v ≡ true → total ≤ 1048576

@@ -1,13 +1,13 @@
 //! The printed text of a module spells that module.
 //!
-//! One theorem: where a text spells a module, its printed text spells it again, up to the lines of
-//! statements and arguments. There is no code to run here. The proof goes along the derivation of the
-//! given text: each part of it is printed as bytes that the lexer cuts into tokens which spell that part
-//! again (`proofs/Pieces`), with the limits of the grammar met.
+//! Each module that may be written, by a predicate on the module alone, is spelled by its printed text, up to the lines of
+//! statements and arguments; and where a text spells a module, that module may be written, but for a negated 0 under the nesting
+//! limit. There is no code to run here. The proof of the first goes along the module, that of the second along the derivation of
+//! the text.
 //!
 //! The crate stands on `affine_grammar`, `affine_lex` and `affine_ast`.
 #![tactic(auto)]
 
 mod law;
 
-pub use law::printed_texts_spell;
+pub use law::{printed_texts_spell, written_texts_spell};

@@ -4,6 +4,5 @@ pub mod Statements
 pub mod Named
 pub mod Unmade
 pub mod Lines
-pub mod Nested
 pub mod Whole
 pub mod Placements

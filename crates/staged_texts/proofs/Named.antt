@@ -20,7 +20,7 @@ use Rattle.first_rules.proofs.Arguments.{cases}
 use Rattle.printed_texts.proofs.Given.{IsWritten}
 use Rattle.printed_texts.proofs.Pieces.{is_id_byte}
 use Rattle.printed_texts.proofs.Marks.{decimal_digits}
-use Rattle.printed_texts.proofs.Modules.{AllTold}
+use Rattle.printed_texts.proofs.Modules.{ArgumentsFit}
 use Rattle.staged_rules.proofs.Planned.{IsSoundPlan, written_less, length_numbered}
 use Rattle.staged_texts.proofs.Statements.{AreArgumentsWritten, IsNamed}
 
@@ -82,12 +82,12 @@ note_written types name (Memref uy) line w h n ty e = cases (same_name name n)
     (λ t. h n ty (sym (put-other types name (Some uy) n t) ∙ e))
 note_written types name (Index range) line w h n ty e = h n ty e
 
-all_written : (args : List Arg) (types : Name → Option MemrefType) → AllTold args → ((n : Name) (ty : MemrefType) → types n ≡ Some ty → IsWritten n)
+all_written : (args : List Arg) (types : Name → Option MemrefType) → ArgumentsFit args → ((n : Name) (ty : MemrefType) → types n ≡ Some ty → IsWritten n)
     → (n : Name) (ty : MemrefType) → fold note_type types args n ≡ Some ty → IsWritten n
 all_written [] types t h = h
 all_written (a ∷ args) types t h = all_written args (note_type types a) t.1 (note_written types a.name a.kind a.line t.0.name h)
 
-pub arguments_written : (args : List Arg) → AllTold args → AreArgumentsWritten args
+pub arguments_written : (args : List Arg) → ArgumentsFit args → AreArgumentsWritten args
 unfolding arg_types
 arguments_written args t = all_written args (λ n. None) t (λ n ty e. absurd (let z : ⊥ = cc in z))
 

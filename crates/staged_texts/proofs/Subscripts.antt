@@ -1,22 +1,16 @@
--- The subscripts of the template are spelled by their printed spelling.
-use Rattle.std.proofs.Common.{◌≡◌, ℕ, ◌+◌, ◌≤◌, pos, Bool, true, false, ◌||◌, List, [], ◌∷◌, nat_le, refl, ap, ◌∙◌, subst, arith}
+-- The subscripts of the template may be written.
+use Rattle.std.proofs.Common.{◌≡◌, ℕ, zero, suc, ◌≤◌, pos, Bool, true, false, List, [], ◌∷◌, ◌++◌, length, refl, sym, ap, ◌∙◌, subst, inr, append-nil, arith}
 use Rattle.std.specs.Prelude.{nat_eq, if◌then◌else◌}
 use Rattle.affine_expr.specs.declared.expr.Expr.{Expr, Dim, Const, Add, Sub}
 use Rattle.affine_ast.specs.declared.name.Name.{Name}
 use Rattle.affine_ast.specs.declared.types.Access.{Access}
-use Rattle.affine_grammar.specs.declared.words.State.{State}
-use Rattle.affine_grammar.specs.declared.words.Leaves.TheVariants as leaves
 use Rattle.affine_grammar.specs.declared.words.Operator.TheVariants as operator
-use Rattle.affine_grammar.specs.Token.{named, dimension_of, counting}
-use Rattle.affine_grammar.specs.Grammar.{no_values, access_with}
 use Rattle.copy_emit.specs.Template.{plus, less, at_expression, at_value, behind_place, in_half}
-use Rattle.printed_texts.specs.Nesting.{depths, nests_within, printed_nesting, zeros}
+use Rattle.printed_texts.specs.Nesting.{depths, printed_nesting}
+use Rattle.printed_texts.specs.Writable.{IsWritten, InRange, Positive, Operand, Dimension, Integer, operands_of, operands_in_use, IsWithin, Appear, AreApart, SubscriptsFit}
 use Rattle.printed_texts.proofs.Depths.{depths-Dim, depths-Const, depths-Add, depths-Sub}
-use Rattle.printed_texts.proofs.Given.{IsWritten, named_is}
-use Rattle.printed_texts.proofs.Leaves.{Told, dimension_told, number_told}
-use Rattle.printed_texts.proofs.Expressions.{joined_told, ToldExpression, expression_of}
-use Rattle.printed_texts.proofs.Lists.{list_none, list_more}
-use Rattle.printed_texts.proofs.Uses.{ToldSubscripts, subscripts_of}
+use Rattle.printed_texts.proofs.Spelt.{appear_then}
+use Rattle.printed_texts.proofs.Walked.{operands_leaf, operands-joined}
 
 -- ---- depths
 
@@ -35,147 +29,106 @@ add_depth n = let e = ap (λ d. d.sum) (depths-Add (Dim 0) (Const (pos n))) in l
 sub_depth : (n : ℕ) → (depths (Sub (Dim 0) (Const (pos n)))).sum ≡ 0
 sub_depth n = let e = ap (λ d. d.sum) (depths-Sub (Dim 0) (Const (pos n))) in let a = dim_depth in let b = const_product n in omega (arith, e, a, b)
 
-shallow_nests : (e : Expr) → (depths e).sum ≡ 0 → nests_within e ≡ true
-unfolding nests_within printed_nesting
-shallow_nests e h = ap (λ n. nat_le n 128 || (zeros e).bare) h
-
 -- ---- expressions over one value
 
--- no value has stood yet, behind so many operands of the expression and of the module
-abbrev fresh_state : ℕ → ℕ → State
-fresh_state operands total = record { operands = operands; total = total; dims = []; syms = [] }
+-- at most two operands, the value the first dimension among them
+record IsOverValue (e : Expr) : Type 0 where
+  within : IsWithin e
+  order : Appear 0 0 (operands_of e) 1 0
+  few : length (operands_of e) ≤ 2
 
-not_full : (total : ℕ) → total + 1 ≤ 1048576 → nat_le 1048576 total ≡ false
-not_full total h = grind (arith, h)
+shallow : (e : Expr) (xs : List Operand) → operands_of e ≡ xs → length xs ≤ 256 → (depths e).sum ≡ 0 → IsWithin e
+unfolding printed_nesting
+shallow e xs q l d = record { operands = (let n = ap (λ (ys : List Operand). length ys) q in omega (arith, n, l)); nesting = omega (arith, d) }
 
--- an expression that adds at most two operands, the value the first one among its dimensions
-record IsOverValue (total : ℕ) (n : Name) (e : Expr) : Type 0 where
-  behind : State
-  dims : behind.dims ≡ named n.text ∷ []
-  syms : behind.syms ≡ []
-  within : behind.total ≤ total + 2
-  told : (operands : ℕ) → ToldExpression leaves.Values (fresh_state operands total) (e, behind)
+over_of : (e : Expr) (xs : List Operand) → operands_of e ≡ xs → length xs ≤ 2 → Appear 0 0 xs 1 0 → (depths e).sum ≡ 0 → IsOverValue e
+over_of e xs q l a d = record {
+  within = shallow e xs q (omega (arith, l)) d;
+  order = subst (λ ys. Appear 0 0 ys 1 0) (sym q) a;
+  few = (let n = ap (λ (ys : List Operand). length ys) q in omega (arith, n, l));
+}
 
-module _ (n : Name) (w : IsWritten n) (total : ℕ) (room : total + 2 ≤ 1048576) where
-  abbrev first_state : State
-  first_state = (dimension_of (fresh_state 0 total) n.text).1
+small_in : (k : ℕ) → k ≤ 262144 → InRange (pos k)
+small_in k h = Positive k refl (omega (arith, h))
 
-  dim_told : Told leaves.Values (fresh_state 0 total) (Dim 0, first_state)
-  dim_told = dimension_told (fresh_state 0 total) n.text w.form (not_full total (omega (arith, room)))
+const_operands : (k : ℕ) → operands_of (Const (pos k)) ≡ Integer (pos k) ∷ []
+const_operands k = operands_leaf (Integer (pos k))
 
-  number_behind : (k : ℕ) → k ≤ 262144 → Told leaves.Values first_state (Const (pos k), counting first_state)
-  number_behind k small = number_told leaves.Values first_state k (omega (arith, small)) (not_full (total + 1) (omega (arith, room)))
+two_operands : (k : ℕ) → operands_of (Dim 0) ++ operands_of (Const (pos k)) ≡ Dimension 0 ∷ Integer (pos k) ∷ []
+two_operands k = ap (λ xs. xs ++ operands_of (Const (pos k))) (operands_leaf (Dimension 0)) ∙ ap (λ xs. Dimension 0 ∷ xs) (const_operands k)
 
-  dim_over : IsOverValue total n (Dim 0)
-  dim_over = record {
-    behind = first_state;
-    dims = refl;
-    syms = refl;
-    within = omega arith;
-    told = λ operands. expression_of leaves.Values (fresh_state operands total) (Dim 0, first_state) dim_told (λ h. let d = dim_depth in omega (arith, d));
-  }
+dim_over : IsOverValue (Dim 0)
+dim_over = over_of (Dim 0) (Dimension 0 ∷ []) (operands_leaf (Dimension 0)) (omega arith) (inr (refl, (refl, refl))) dim_depth
 
-  add_over : (k : ℕ) → k ≤ 262144 → IsOverValue total n (Add (Dim 0) (Const (pos k)))
-  add_over k small = record {
-    behind = counting first_state;
-    dims = refl;
-    syms = refl;
-    within = omega arith;
-    told = λ operands.
-        expression_of leaves.Values (fresh_state operands total) (Add (Dim 0) (Const (pos k)), counting first_state)
-        (joined_told leaves.Values (fresh_state 0 total) (Dim 0, first_state) (Const (pos k), counting first_state) operator.Add dim_told (number_behind k small))
-        (λ h. let d = add_depth k in omega (arith, d));
-  }
+add_over : (k : ℕ) → k ≤ 262144 → IsOverValue (Add (Dim 0) (Const (pos k)))
+add_over k small = over_of (Add (Dim 0) (Const (pos k))) (Dimension 0 ∷ Integer (pos k) ∷ []) (operands-joined operator.Add (Dim 0) (Const (pos k)) ∙ two_operands k) (omega arith) (inr (refl, (small_in k small, (refl, refl)))) (add_depth k)
 
-  sub_over : (k : ℕ) → k ≤ 262144 → IsOverValue total n (Sub (Dim 0) (Const (pos k)))
-  sub_over k small = record {
-    behind = counting first_state;
-    dims = refl;
-    syms = refl;
-    within = omega arith;
-    told = λ operands.
-        expression_of leaves.Values (fresh_state operands total) (Sub (Dim 0) (Const (pos k)), counting first_state)
-        (joined_told leaves.Values (fresh_state 0 total) (Dim 0, first_state) (Const (pos k), counting first_state) operator.Sub dim_told (number_behind k small))
-        (λ h. let d = sub_depth k in omega (arith, d));
-  }
+sub_over : (k : ℕ) → k ≤ 262144 → IsOverValue (Sub (Dim 0) (Const (pos k)))
+sub_over k small = over_of (Sub (Dim 0) (Const (pos k))) (Dimension 0 ∷ Integer (pos k) ∷ []) (operands-joined operator.Sub (Dim 0) (Const (pos k)) ∙ two_operands k) (omega arith) (inr (refl, (small_in k small, (refl, refl)))) (sub_depth k)
 
-  plus_over : (k : ℕ) → k ≤ 262144 → IsOverValue total n (plus (Dim 0) k)
-  plus_over k small = by (nat_eq k 0)
-    where
-      by : (t : Bool) → IsOverValue total n (if t then Dim 0 else Add (Dim 0) (Const (pos k)))
-      by true = dim_over
-      by false = add_over k small
+plus_over : (k : ℕ) → k ≤ 262144 → IsOverValue (plus (Dim 0) k)
+plus_over k small = by (nat_eq k 0)
+  where
+    by : (t : Bool) → IsOverValue (if t then Dim 0 else Add (Dim 0) (Const (pos k)))
+    by true = dim_over
+    by false = add_over k small
 
-  less_over : (k : ℕ) → k ≤ 262144 → IsOverValue total n (less (Dim 0) k)
-  less_over k small = by (nat_eq k 0)
-    where
-      by : (t : Bool) → IsOverValue total n (if t then Dim 0 else Sub (Dim 0) (Const (pos k)))
-      by true = dim_over
-      by false = sub_over k small
+less_over : (k : ℕ) → k ≤ 262144 → IsOverValue (less (Dim 0) k)
+less_over k small = by (nat_eq k 0)
+  where
+    by : (t : Bool) → IsOverValue (if t then Dim 0 else Sub (Dim 0) (Const (pos k)))
+    by true = dim_over
+    by false = sub_over k small
 
 -- ---- subscripts
 
--- subscripts that add at most so many operands
-pub record AreSpelled (at : Access) (total most : ℕ) : Type 0 where
-  pub behind : ℕ
-  pub within : behind ≤ total + most
-  pub told : ToldSubscripts at total behind
+-- subscripts that may be written, of at most so many operands
+pub record AreFit (at : Access) (most : ℕ) : Type 0 where
+  pub fit : SubscriptsFit at
+  pub few : operands_in_use at ≤ most
 
-same_access : (es : List Expr) (s : State) (n : Name) → IsWritten n → s.dims ≡ named n.text ∷ [] → s.syms ≡ []
-    → (access_with (es, s)).0 ≡ record { map = record { dims = 1; syms = 0; results = es }; operands = n ∷ [] }
-same_access es s n w d e =
-    ap (λ (dims : List Name). (access_with (es, record { operands = s.operands; total = s.total; dims = dims; syms = s.syms })).0) d
-    ∙ ap (λ (syms : List Name). (access_with (es, record { operands = s.operands; total = s.total; dims = named n.text ∷ []; syms = syms })).0) e
-    ∙ ap (λ (m : Name). record { map = record { dims = 1; syms = 0; results = es }; operands = m ∷ [] }) (named_is n w)
+one_apart : (n : Name) → AreApart (n ∷ [])
+one_apart n zero zero a b p q t = refl
+one_apart n zero (suc j) a b p q t = absurd cc
+one_apart n (suc i) j a b p q t = absurd cc
 
-single_spelled : (n : Name) (w : IsWritten n) (total : ℕ) (e : Expr) → IsOverValue total n e → AreSpelled (at_expression e n) total 2
-single_spelled n w total e o = record {
-  behind = o.behind.total;
-  within = o.within;
-  told = subst (λ (at : Access). ToldSubscripts at total o.behind.total) (same_access (e ∷ []) o.behind n w o.dims o.syms)
-      (subscripts_of total (e, o.behind) (e ∷ [], o.behind) (o.told 0) (list_none leaves.Values (e ∷ [], o.behind)));
+none_apart : AreApart []
+none_apart i j a b p q t = absurd cc
+
+single_fit : (n : Name) → IsWritten n → (e : Expr) → IsOverValue e → AreFit (at_expression e n) 2
+single_fit n w e o = record {
+  fit = record {
+    most = omega arith;
+    within = (o.within, tt);
+    order = subst (λ xs. Appear 0 0 xs 1 0) (sym (append-nil (operands_of e))) o.order;
+    count = refl;
+    written = (w, tt);
+    dims = one_apart n;
+    syms = none_apart;
+  };
+  few = (let f = o.few in omega (arith, f));
 }
 
 -- a 0 before it
-half_spelled : (n : Name) (w : IsWritten n) (total : ℕ) (e : Expr) → total + 1 ≤ 1048576 → IsOverValue (total + 1) n e
-    → AreSpelled (record { map = record { dims = 1; syms = 0; results = Const (pos 0) ∷ e ∷ [] }; operands = n ∷ [] }) total 3
-half_spelled n w total e room o =
-    let zero_state : State = counting (fresh_state 0 total) in
-    let zero : ToldExpression leaves.Values (no_values total) (Const (pos 0), zero_state) =
-    expression_of leaves.Values (no_values total) (Const (pos 0), zero_state) (number_told leaves.Values (fresh_state 0 total) 0 (omega arith) (not_full total (omega (arith, room)))) (λ h. let d = const_depth 0 in omega (arith, d)) in
-    let list = list_more leaves.Values (Const (pos 0) ∷ [], zero_state) (Const (pos 0) ∷ e ∷ [], o.behind) (e, o.behind) refl (o.told 1) (list_none leaves.Values (Const (pos 0) ∷ e ∷ [], o.behind)) in
-    let within = o.within in
+half_fit : (n : Name) → IsWritten n → (e : Expr) → IsOverValue e → AreFit (record { map = record { dims = 1; syms = 0; results = Const (pos 0) ∷ e ∷ [] }; operands = n ∷ [] }) 3
+half_fit n w e o =
+    let zero : Appear 0 0 (operands_of (Const (pos 0))) 0 0 = subst (λ xs. Appear 0 0 xs 0 0) (sym (const_operands 0)) (small_in 0 (omega arith), (refl, refl)) in
+    let one : length (operands_of (Const (pos 0))) ≡ 1 = ap (λ (xs : List Operand). length xs) (const_operands 0) in
     record {
-      behind = o.behind.total;
-      within = omega (arith, within);
-      told = subst (λ (at : Access). ToldSubscripts at total o.behind.total) (same_access (Const (pos 0) ∷ e ∷ []) o.behind n w o.dims o.syms)
-          (subscripts_of total (Const (pos 0), zero_state) (Const (pos 0) ∷ e ∷ [], o.behind) zero list);
+      fit = record {
+        most = omega arith;
+        within = (shallow (Const (pos 0)) (Integer (pos 0) ∷ []) (const_operands 0) (omega arith) (const_depth 0), (o.within, tt));
+        order = appear_then (operands_of (Const (pos 0))) (operands_of e ++ []) 0 0 0 0 1 0 zero (subst (λ xs. Appear 0 0 xs 1 0) (sym (append-nil (operands_of e))) o.order);
+        count = refl;
+        written = (w, tt);
+        dims = one_apart n;
+        syms = none_apart;
+      };
+      few = (let f = o.few in omega (arith, f, one));
     }
 
-pub slow_spelled : (n : Name) → IsWritten n → (total place : ℕ) → total + 2 ≤ 1048576 → place ≤ 262144 → AreSpelled (behind_place place n) total 2
-slow_spelled n w total place room small = single_spelled n w total (plus (Dim 0) place) (plus_over n w total room place small)
+pub slow_fit : (n : Name) → IsWritten n → (place : ℕ) → place ≤ 262144 → AreFit (behind_place place n) 2
+slow_fit n w place small = single_fit n w (plus (Dim 0) place) (plus_over place small)
 
-pub fast_spelled : (n : Name) → IsWritten n → (total place : ℕ) → total + 3 ≤ 1048576 → place ≤ 262144 → AreSpelled (in_half place (at_value n)) total 3
-fast_spelled n w total place room small = half_spelled n w total (less (Dim 0) place) (omega (arith, room)) (less_over n w (total + 1) (omega (arith, room)) place small)
-
--- ---- nesting
-
-plus_nests : (k : ℕ) → nests_within (plus (Dim 0) k) ≡ true
-plus_nests k = by (nat_eq k 0)
-  where
-    by : (t : Bool) → nests_within (if t then Dim 0 else Add (Dim 0) (Const (pos k))) ≡ true
-    by true = shallow_nests (Dim 0) dim_depth
-    by false = shallow_nests (Add (Dim 0) (Const (pos k))) (add_depth k)
-
-less_nests : (k : ℕ) → nests_within (less (Dim 0) k) ≡ true
-less_nests k = by (nat_eq k 0)
-  where
-    by : (t : Bool) → nests_within (if t then Dim 0 else Sub (Dim 0) (Const (pos k))) ≡ true
-    by true = shallow_nests (Dim 0) dim_depth
-    by false = shallow_nests (Sub (Dim 0) (Const (pos k))) (sub_depth k)
-
-pub slow_nests : (k : ℕ) → (nests_within (plus (Dim 0) k) ≡ true) × Unit {0}
-slow_nests k = (plus_nests k, tt)
-
-pub fast_nests : (k : ℕ) → (nests_within (Const (pos 0)) ≡ true) × ((nests_within (less (Dim 0) k) ≡ true) × Unit {0})
-fast_nests k = (shallow_nests (Const (pos 0)) (const_depth 0), (less_nests k, tt))
+pub fast_fit : (n : Name) → IsWritten n → (place : ℕ) → place ≤ 262144 → AreFit (in_half place (at_value n)) 3
+fast_fit n w place small = half_fit n w (less (Dim 0) place) (less_over place small)

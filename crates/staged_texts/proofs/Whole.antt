@@ -1,16 +1,15 @@
 -- The printed text of a staged module spells a valid module.
 use Rattle.std.proofs.Common.{◌≡◌, ℕ, ◌<◌, ◌^◌, pos, true, false, List, [], ◌∷◌, ◌++◌, length, map, sym, ap, ◌∙◌, subst, arith}
 use Rattle.std.specs.Prelude.{All, flat_map, reverse}
-use Rattle.std.proofs.lemmas.List.{append_assoc, append-nil}
+use Rattle.std.proofs.lemmas.List.{append_assoc}
 use Rattle.std.proofs.lemmas.Bool.{and_parts}
 use Rattle.affine_ast.specs.declared.module.Module.{Module}
 use Rattle.affine_ast.specs.declared.stmt.Stmt.{Stmt}
 use Rattle.affine_ast.specs.declared.stmt.What as what
 use Rattle.affine_ast.specs.declared.types.Bound.TheVariants.{Int}
-use Rattle.affine_ast.specs.Nest.{nest}
-use Rattle.affine_ast.proofs.Nests.{nest-cons, put-For}
+use Rattle.affine_ast.specs.Nest.{Nothing, Does, Return, put_what, followed_by, nest}
+use Rattle.affine_ast.proofs.Nests.{nest-nil, nest-cons, nest-append, put-For, put-Return}
 use Rattle.affine_ast.specs.Spelling.{spelling}
-use Rattle.affine_grammar.specs.GrammarFile.{Region}
 use Rattle.affine_grammar.specs.Spelling.{tokens_of, Spells}
 use Rattle.direct_meaning.specs.Direct.{plain}
 use Rattle.copy_emit.specs.Template as template
@@ -24,20 +23,18 @@ use Rattle.first_path.specs.Form.{IsOfFirstForm}
 use Rattle.first_path.specs.Valid.{IsValidFirst}
 use Rattle.first_path.specs.Law.{IsStagedBy, RunsAs}
 use Rattle.printed_texts.specs.Comments.{AreOnOneLine, comment_lines}
-use Rattle.printed_texts.specs.Nesting.{ModuleNests, StatementsNest}
-use Rattle.printed_texts.proofs.Comments.{comments_gap}
-use Rattle.printed_texts.proofs.Blocks.{told_none}
+use Rattle.printed_texts.specs.Writable.{MayBeWritten}
 use Rattle.printed_texts.proofs.Given.{given_left, given_right}
 use Rattle.printed_texts.proofs.Modules.{ToldFunction, aliases_told, module_told, returning}
-use Rattle.printed_texts.proofs.Whole.{given_text, told_spells_behind}
+use Rattle.printed_texts.proofs.Whole.{given_text}
+use Rattle.printed_texts.proofs.Writing.{written_spells}
 use Rattle.staged_rules.proofs.Forms.{form_under}
 use Rattle.staged_rules.proofs.Modules.{staged_valid}
 use Rattle.staged_rules.proofs.Planned.{plan_sound, size_fits}
 use Rattle.staged_texts.specs.Laws.{SpellsStaged}
 use Rattle.staged_texts.proofs.Results.{AreWritten, file_written, all_results}
-use Rattle.staged_texts.proofs.Statements.{wrapped_told}
+use Rattle.staged_texts.proofs.Statements.{staged_fits}
 use Rattle.staged_texts.proofs.Named.{arguments_written, plan_named}
-use Rattle.staged_texts.proofs.Nested.{wrapped_nests, core_nests, with_return}
 use Rattle.staged_texts.proofs.Lines.{valid_alike, prompt_alike}
 use Rattle.staged_texts.proofs.Unmade.{unmade, plan_unmade, wrapped_alike, core_alike, body_spelled}
 
@@ -78,9 +75,9 @@ module _ (m : Module) (l : FirstLoop) (form : IsOfFirstForm m l) (v : IsValidFir
       ∙ ap (λ (ss : List Staged). spelling (record m { body = wrapped ss (core ss) ++ last })) (plan_unmade l)
       ∙ ap (λ (body : List Stmt). spelling (record m { body = body })) (sym (body_wrapped plan))
 
-  -- its parts are told
-  staged_told : ToldFunction m → AreWritten (nest m.body) → ToldFunction (staged m plan l)
-  staged_told t w =
+  -- it may be written
+  staged_written : ToldFunction m → AreWritten (nest m.body) → MayBeWritten (staged m plan l)
+  staged_written t w =
       let last : List Stmt = returning l.return_line ∷ [] in
       let is = ap nest form.body ∙ nest-cons (record { line = l.line; what = what.For l.var (Int l.low) (Int l.high) (pos 1) l.body }) last ∙ put-For l.line (nest last) l.var (Int l.low) (Int l.high) (pos 1) l.body in
       let loop = (subst AreWritten is w).loops in
@@ -90,21 +87,18 @@ module _ (m : Module) (l : FirstLoop) (form : IsOfFirstForm m l) (v : IsValidFir
       let elements = form.parts.elements in
       let arguments = arguments_written m.args t.args in
       let named = plan_named m l sound (omega (arith, statements)) arguments in
-      let r = wrapped_told m.args plan l named arguments loop.0 (λ n size e. (let k = size_fits m.args n size e in omega (arith, k, elements))) (all_results l.var l.body form.parts.stmts loop.1)
-      plan [] 0 named v.looped form.parts.stmts (omega (arith, few, statements)) (λ middle h. record { behind = middle; told = told_none (Region [] 39) middle }) in
+      let r = staged_fits m.args plan l named arguments loop.0 (λ n size e. (let k = size_fits m.args n size e in omega (arith, k, elements))) (all_results l.var l.body form.parts.stmts loop.1) v.looped form.parts.stmts in
+      let operands = r.few in
+      let end : nest last ≡ Does l.return_line Return Nothing = nest-cons (returning l.return_line) [] ∙ ap (λ n. put_what what.Return l.return_line n) nest-nil ∙ put-Return l.return_line Nothing in
       record {
         name = t.name;
         args = t.args;
-        stmts = wrapped plan (core plan) ++ [];
+        stmts = nest (wrapped plan (core plan));
         line = l.return_line;
-        body = body_wrapped plan ∙ ap (λ (xs : List Stmt). xs ++ returning l.return_line ∷ []) (sym (append-nil (wrapped plan (core plan))));
-        after = r.behind;
-        told = r.told;
+        body = ap nest (body_wrapped plan) ∙ nest-append (wrapped plan (core plan)) last ∙ ap (λ n. followed_by (nest (wrapped plan (core plan))) n) end;
+        fit = r.fit;
+        operands = omega (arith, operands, few, statements);
       }
-
-  -- and nest no deeper than a text may
-  staged_nests : ModuleNests (staged m plan l)
-  staged_nests = subst (λ (body : List Stmt). StatementsNest (nest body)) (sym (body_wrapped plan)) (with_return (wrapped plan (core plan)) l.return_line (wrapped_nests plan (core plan) (core_nests plan l form.parts.stmts)))
 
   -- it runs as the module
   staged_runs : RunsAs m (staged m plan l)
@@ -115,7 +109,7 @@ module _ (m : Module) (l : FirstLoop) (form : IsOfFirstForm m l) (v : IsValidFir
   spells_staged : (source : List ℕ) → length source < 2 ^ 64 → Spells source m → (comments : List (List ℕ)) → All AreOnOneLine comments → SpellsStaged m (comment_lines comments ++ spelling (staged m (first_staged true l) l))
   spells_staged source short s comments lines =
       let t = input_told source m short s in
-      let n = told_spells_behind (comment_lines comments) (staged m plan l) (comments_gap comments lines) (staged_told t.0 t.1) staged_nests in
+      let n = written_spells (staged m plan l) (staged_written t.0 t.1) comments lines in
       subst (λ (text : List ℕ). SpellsStaged m (comment_lines comments ++ text)) (sym spelled_same) (record {
         looped = l;
         form = form;

@@ -14,6 +14,7 @@ use affine_ast::{Element, Name, Scalar, Text};
 use affine_expr::Rel;
 use affine_grammar::{Action, Definition, Operator};
 use affine_lex::{Kind, Scanner, Token};
+use name_hash::NameHashing;
 use std::alloc::Global;
 use std::marker::Model;
 
@@ -25,6 +26,8 @@ pub struct Tokens<'a> {
     pub(crate) next: Option<Token>,
     /// What stands behind it.
     pub(crate) rest: Scanner<'a>,
+    /// How the names of the text are hashed.
+    hashing: NameHashing,
 }
 
 impl<'a> Model for Tokens<'a> {
@@ -72,7 +75,17 @@ impl<'a> Tokens<'a> {
     {
         let mut rest = scanner;
         let next = rest.next_token();
-        Tokens { source, next, rest }
+        Tokens {
+            source,
+            next,
+            rest,
+            hashing: NameHashing::of_text(source),
+        }
+    }
+
+    /// How the names of the text are hashed. Which it is stays open: no answer of a table depends on it.
+    pub fn hashing(&self) -> NameHashing {
+        self.hashing
     }
 
     /// Whether none is left.

@@ -12,6 +12,7 @@ use crate::numbering::Numbering;
 use crate::program::{Argument, Program};
 use crate::regions::number_region;
 use affine_ast::{Arg, Module};
+use name_hash::NameHashing;
 use sqlite_items::Items;
 use std::alloc::{AllocError, Global};
 
@@ -44,7 +45,7 @@ pub fn make(alloc: Global, module: &Module) -> Result<Program, AllocError>
     ensures body { IfOk result (λ p. nest_of p.names (tree p.body) ≡ nest «module».now.body) }
     ensures width { IfOk result (λ p. p.width ≡ width_in (nest «module».now.body)) }
 {
-    let mut numbering = Numbering::new(alloc);
+    let mut numbering = Numbering::new(alloc, NameHashing::of_module(module));
     let arguments = number_arguments(&mut numbering, alloc, module.args.as_slice())?;
     let body = number_region(&mut numbering, alloc, module.body.as_slice())?;
     Ok(Program {

@@ -8,6 +8,7 @@ ghost use Rattle.walk_program.specs.Widths.{width_in_bound};
 use crate::plain::{Limit, Subscripts};
 use affine_ast::{Access, Bound, Name, Text};
 use indexmap::IndexSet;
+use name_hash::NameHashing;
 use sqlite_items::Items;
 use std::alloc::{AllocError, Global};
 use std::marker::Model;
@@ -22,7 +23,7 @@ pub(crate) struct Key<'a> {
 /// The names so far, each once, in the order of first use, and how many operands the longest list of them so far has.
 #[derive(Drop)]
 pub(crate) struct Numbering<'a> {
-    keys: IndexSet<Key<'a>>,
+    keys: IndexSet<Key<'a>, NameHashing>,
     longest: u32,
 }
 
@@ -68,12 +69,12 @@ fn copy_name(alloc: Global, key: Key<'_>) -> Result<Name, AllocError>
 
 impl<'a> Numbering<'a> {
     /// A table without names.
-    pub(crate) fn new(alloc: Global) -> Numbering<'a>
+    pub(crate) fn new(alloc: Global, hashing: NameHashing) -> Numbering<'a>
         ensures names { result.names ≡ [] }
         ensures width { result.width ≡ 0 }
     {
         Numbering {
-            keys: IndexSet::new(alloc),
+            keys: IndexSet::with_hasher(alloc, hashing),
             longest: 0,
         }
     }

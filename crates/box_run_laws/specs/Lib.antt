@@ -1,0 +1,10 @@
+pub mod Roomy
+pub mod Layouts
+pub mod Owned
+pub mod Boxes
+pub mod Parts
+pub mod Templates
+pub mod Runs
+pub mod Peaks
+pub mod Plain
+pub mod Law

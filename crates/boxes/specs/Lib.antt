@@ -1,0 +1,3 @@
+pub mod Every
+pub mod Boxes
+pub mod Laws

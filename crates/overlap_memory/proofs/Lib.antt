@@ -1,0 +1,11 @@
+pub mod Lists
+pub mod Changed
+pub mod Slow
+pub mod Fast
+pub mod Counts
+pub mod Waits
+pub mod Starts
+pub mod Drains
+pub mod Begins
+pub mod Finds
+pub mod Allocs

@@ -1,0 +1,67 @@
+-- What a text with its names changed stands for.
+use Rattle.std.proofs.Common.{◌≡◌, ℤ, List, [], ◌∷◌, map, take, drop, refl, sym, ap, ◌∙◌, Bool, true}
+use Rattle.std.specs.Prelude.{◌&&◌, Option, Some, None, if◌then◌else◌}
+use Rattle.std.specs.List.{list_all}
+use Rattle.affine_expr.specs.declared.map.Set.{Set}
+use Rattle.affine_expr.specs.Truth.{holds}
+use Rattle.affine_expr.specs.Value.{value}
+use Rattle.affine_ast.specs.declared.name.Name.{Name}
+use Rattle.affine_ast.specs.declared.types.Access.{Access}
+use Rattle.affine_ast.specs.declared.types.Bound.{Bound}
+use Rattle.affine_ast.specs.declared.types.Bound.TheVariants as bound
+use Rattle.affine_ast.specs.declared.types.MemrefType.{MemrefType}
+use Rattle.affine_ast.specs.Names.{put}
+use Rattle.direct_meaning.specs.Static.{Env, number, numbers, operand_of, operand, results_of, greatest, least, lower_of, upper_of, holds_at, cell_in, place_at, place_of, tag_at, tag_of}
+use Rattle.placement_texts.specs.Own.{OwnNames, OwnBound}
+use Rattle.placement_texts.specs.Renamed.{access_named, bound_named, operand_named, KeepsApart, RenamesEnv}
+
+module _ (f : Name → Name) (own : Name → Bool) where
+  -- a name more, on both sides
+  put_named : {A : Type 0} (s t : Name → A) (r : Name) (x y : A) → KeepsApart f own → own r ≡ true → x ≡ y → ((n : Name) → own n ≡ true → t (f n) ≡ s n) → (n : Name) → own n ≡ true → put t (f r) y (f n) ≡ put s r x n
+  unfolding put
+  put_named s t r x y apart o is h n k = λ i. if apart r n o k i then sym is i else h n k i
+
+  -- a test of each name
+  all_named : (p q : Name → Bool) → ((n : Name) → own n ≡ true → q (f n) ≡ p n) → (ns : List Name) → OwnNames own ns → list_all q (map f ns) ≡ list_all p ns
+  all_named p q h [] o = refl
+  all_named p q h (n ∷ ns) o = λ i. h n o.0 i && all_named p q h ns o.1 i
+
+  module _ (e g : Env) (r : RenamesEnv f own e g) where
+    numbers_named : (ns : List Name) → OwnNames own ns → numbers g (map f ns) ≡ numbers e ns
+    numbers_named [] o = refl
+    numbers_named (n ∷ ns) o = λ i. number (r.known n o.0 i) ∷ numbers_named ns o.1 i
+
+    results_named : (at : Access) → OwnNames own at.operands → results_of g (access_named f at) ≡ results_of e at
+    unfolding results_of
+    results_named at o = ap (λ zs. map (value (take at.map.dims zs) (drop at.map.dims zs)) at.map.results) (numbers_named at.operands o)
+
+    lower_named : (l : Bound) → OwnBound own l → lower_of g (bound_named f l) ≡ lower_of e l
+    unfolding lower_of
+    lower_named (bound.Int z) o = refl
+    lower_named (bound.Value n) o = ap number (r.known n o)
+    lower_named (bound.Map at) o = ap greatest (results_named at o)
+
+    upper_named : (u : Bound) → OwnBound own u → upper_of g (bound_named f u) ≡ upper_of e u
+    unfolding upper_of
+    upper_named (bound.Int z) o = refl
+    upper_named (bound.Value n) o = ap number (r.known n o)
+    upper_named (bound.Map at) o = ap least (results_named at o)
+
+    holds_named : (set : Set) (ns : List Name) → OwnNames own ns → holds_at g set (map f ns) ≡ holds_at e set ns
+    unfolding holds_at
+    holds_named set ns o = ap (λ zs. holds (take set.dims zs) (drop set.dims zs) set) (numbers_named ns o)
+
+    place_named : (m : Name) (at : Access) (ty : MemrefType) → own m ≡ true → OwnNames own at.operands → place_of g (f m) (access_named f at) ty ≡ place_of e m at ty
+    unfolding place_of
+    place_named m at ty o h = λ i. place_at (r.home m o i) ty.sizes (results_named at h i)
+
+    tag_named : (t : Name) (at : Access) (ty : MemrefType) → own t ≡ true → OwnNames own at.operands → tag_of g (f t) (access_named f at) ty ≡ tag_of e t at ty
+    unfolding tag_of
+    tag_named t at ty o h = λ i. tag_at (r.home t o i) (cell_in ty.sizes (results_named at h i))
+
+    operand_is : (n : Name) → own n ≡ true → operand g (f n) ≡ operand_named f (operand e n)
+    operand_is n o = ap (operand_of (f n)) (r.known n o) ∙ by (e.known n)
+      where
+        by : (x : Option ℤ) → operand_of (f n) x ≡ operand_named f (operand_of n x)
+        by (Some z) = refl
+        by None = refl
