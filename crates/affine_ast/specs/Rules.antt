@@ -24,7 +24,8 @@ use Rattle.affine_ast.specs.declared.types.Scalar.{Scalar}
 use Rattle.affine_ast.specs.declared.types.Scalar.TheVariants.{Int, Index}
 use Rattle.affine_ast.specs.Names.{same_name}
 use Rattle.affine_ast.specs.Nest.{Plain, Nest, Nothing, Loop, Branch, Does, Value, Load, Store, RawLoad, RawStore, Constant, Binary, Cast, Alloc, Dealloc, Start, Wait}
-use Rattle.affine_ast.specs.Parts.{every, result_of, stride_names, uses_of, maps_of}
+pub use Rattle.affine_ast.specs.Parts.{stride_names}
+use Rattle.affine_ast.specs.Parts.{every, result_of, maps_of}
 use Rattle.affine_ast.specs.Scope.{Binding, Variable, Symbol, IndexConstant, Data, MemrefArgument, Allocation, Scope, ranges_in, Totals, Around}
 use Rattle.affine_ast.specs.Sizes.{element_bits, scalar_bits}
 
@@ -46,7 +47,20 @@ bound_in s (bound.Value n) = is_in s n
 bound_in s (bound.Map at) = are_in s at.operands
 
 abbrev pub uses_in_scope : Scope → Plain → Bool
-uses_in_scope s p = list_all (is_in s) (uses_of p)
+uses_in_scope s (Value r pick at) = are_in s at.operands
+uses_in_scope s (Load r m at ty) = place_in s m at
+uses_in_scope s (Store x m at ty) = is_in s x && place_in s m at
+uses_in_scope s (RawLoad r m at ty) = is_in s m && are_in s at
+uses_in_scope s (RawStore x m at ty) = is_in s x && (is_in s m && are_in s at)
+uses_in_scope s (Constant r z ty) = true
+uses_in_scope s (Binary r op x y ty) = is_in s x && is_in s y
+uses_in_scope s (Cast r kind x from to) = is_in s x
+uses_in_scope s (Alloc r ty) = true
+uses_in_scope s (Dealloc m ty) = is_in s m
+uses_in_scope s (Start x x_at y y_at t t_at n stride types) =
+    place_in s x x_at && (place_in s y y_at && (place_in s t t_at && (is_in s n && are_in s (stride_names stride))))
+uses_in_scope s (Wait t at n ty) = place_in s t at && is_in s n
+uses_in_scope s Return = true
 
 -- ---- V2: a value defined isn't in scope already
 

@@ -46,7 +46,7 @@ pub fn text_rule(scoped: &Scoped<'_>) -> Option<u8>
     if text_within(scoped) { None } else { Some(12) }
 }
 
-#[tactic(auto, unfolding(affine_ast::specs::Validity::rule_of_plain, affine_ast::specs::Rules::are_in))]
+#[tactic(auto, unfolding(affine_ast::specs::Validity::rule_of_plain))]
 pub fn rule_of_value<'a>(
     alloc: Global,
     scoped: &Scoped<'a>,
@@ -78,7 +78,7 @@ pub fn rule_of_value<'a>(
     Ok(text_rule(scoped))
 }
 
-#[tactic(auto, unfolding(affine_ast::specs::Validity::rule_of_plain, affine_ast::specs::Rules::are_in))]
+#[tactic(auto, unfolding(affine_ast::specs::Validity::rule_of_plain))]
 pub fn rule_of_load<'a>(
     alloc: Global,
     scoped: &Scoped<'a>,
@@ -117,7 +117,7 @@ pub fn rule_of_load<'a>(
     Ok(text_rule(scoped))
 }
 
-#[tactic(auto, unfolding(affine_ast::specs::Validity::rule_of_plain, affine_ast::specs::Rules::are_in))]
+#[tactic(auto, unfolding(affine_ast::specs::Validity::rule_of_plain))]
 pub fn rule_of_store<'a>(
     alloc: Global,
     scoped: &Scoped<'a>,
@@ -153,7 +153,7 @@ pub fn rule_of_store<'a>(
     Ok(text_rule(scoped))
 }
 
-#[tactic(auto, unfolding(affine_ast::specs::Validity::rule_of_plain, affine_ast::specs::Rules::are_in))]
+#[tactic(auto, unfolding(affine_ast::specs::Validity::rule_of_plain))]
 pub fn rule_of_raw_load<'a>(
     scoped: &Scoped<'a>,
     into: &'a Name,
@@ -185,7 +185,7 @@ pub fn rule_of_raw_load<'a>(
     text_rule(scoped)
 }
 
-#[tactic(auto, unfolding(affine_ast::specs::Validity::rule_of_plain, affine_ast::specs::Rules::are_in))]
+#[tactic(auto, unfolding(affine_ast::specs::Validity::rule_of_plain))]
 pub fn rule_of_raw_store<'a>(
     scoped: &Scoped<'a>,
     value: &'a Name,
@@ -217,7 +217,7 @@ pub fn rule_of_raw_store<'a>(
     text_rule(scoped)
 }
 
-#[tactic(auto, unfolding(affine_ast::specs::Validity::rule_of_plain, affine_ast::specs::Rules::are_in))]
+#[tactic(auto, unfolding(affine_ast::specs::Validity::rule_of_plain))]
 pub fn rule_of_constant<'a>(
     scoped: &Scoped<'a>,
     into: &'a Name,
@@ -236,7 +236,7 @@ pub fn rule_of_constant<'a>(
     text_rule(scoped)
 }
 
-#[tactic(auto, unfolding(affine_ast::specs::Validity::rule_of_plain, affine_ast::specs::Rules::are_in))]
+#[tactic(auto, unfolding(affine_ast::specs::Validity::rule_of_plain))]
 pub fn rule_of_binary<'a>(
     scoped: &Scoped<'a>,
     into: &'a Name,
@@ -263,7 +263,7 @@ pub fn rule_of_binary<'a>(
     text_rule(scoped)
 }
 
-#[tactic(auto, unfolding(affine_ast::specs::Validity::rule_of_plain, affine_ast::specs::Rules::are_in))]
+#[tactic(auto, unfolding(affine_ast::specs::Validity::rule_of_plain))]
 pub fn rule_of_cast<'a>(
     scoped: &Scoped<'a>,
     into: &'a Name,
@@ -290,7 +290,7 @@ pub fn rule_of_cast<'a>(
     text_rule(scoped)
 }
 
-#[tactic(auto, unfolding(affine_ast::specs::Validity::rule_of_plain, affine_ast::specs::Rules::are_in))]
+#[tactic(auto, unfolding(affine_ast::specs::Validity::rule_of_plain))]
 pub fn rule_of_dealloc<'a>(scoped: &Scoped<'a>, memref: &'a Name, ty: &'a MemrefType) -> Option<u8>
     ensures { (rest : Nest) → result ≡ rule_of_plain (around_of scoped.now) (plain.Dealloc memref.now ty.now) rest }
 {
@@ -307,7 +307,7 @@ pub fn rule_of_dealloc<'a>(scoped: &Scoped<'a>, memref: &'a Name, ty: &'a Memref
     text_rule(scoped)
 }
 
-#[tactic(auto, unfolding(affine_ast::specs::Validity::rule_of_plain, affine_ast::specs::Rules::are_in))]
+#[tactic(auto, unfolding(affine_ast::specs::Validity::rule_of_plain))]
 pub fn rule_of_wait<'a>(
     alloc: Global,
     scoped: &Scoped<'a>,
@@ -343,7 +343,7 @@ pub fn rule_of_wait<'a>(
     Ok(text_rule(scoped))
 }
 
-#[tactic(auto, unfolding(affine_ast::specs::Validity::rule_of_plain, affine_ast::specs::Rules::are_in))]
+#[tactic(auto, unfolding(affine_ast::specs::Validity::rule_of_plain))]
 pub fn rule_of_return(scoped: &Scoped<'_>) -> Option<u8>
     ensures { (rest : Nest) → result ≡ rule_of_plain (around_of scoped.now) plain.Return rest }
 {

@@ -2,8 +2,7 @@
 ghost use Rattle.std.specs.Prelude.{◌≡◌, ◌&&◌, Some, None, IfOk, true, false};
 ghost use Rattle.affine_ast.specs.Nest.{Nest};
 ghost use Rattle.affine_ast.specs.Nest as plain;
-ghost use Rattle.affine_ast.specs.Parts.{stride_names, start_uses};
-ghost use Rattle.affine_ast.specs.Rules.{place_in, is_in, is_value, are_in, are_values, access_stands, access_pure, access_bounded, map_fits, ends_typed, ends_fit, ends_in_spaces, constant_of, are_stride_and_chunk, stride_well};
+ghost use Rattle.affine_ast.specs.Rules.{place_in, is_in, is_value, are_in, are_values, stride_names, access_stands, access_pure, access_bounded, map_fits, ends_typed, ends_fit, ends_in_spaces, constant_of, are_stride_and_chunk, stride_well};
 ghost use Rattle.affine_ast.specs.Validity.{rule_of_plain};
 ghost use Rattle.affine_rules.specs.Scoped.{around_of, scope_of};
 
@@ -134,30 +133,8 @@ fn ends_bounded<'a>(
     access_bounded(alloc, names, tag_at)
 }
 
-/// Whether the names that the start of a transfer uses are in scope.
-#[tactic(auto, unfolding(affine_ast::specs::Rules::are_in))]
-fn start_in<'a>(
-    names: &Names<'a>,
-    from: &'a Name,
-    from_at: &'a Access,
-    to: &'a Name,
-    to_at: &'a Access,
-    tag: &'a Name,
-    tag_at: &'a Access,
-    count: &'a Name,
-    stride: &'a Stride,
-) -> bool
-    ensures { result ≡ are_in (scope_of names.now.entries) (start_uses from.now from_at.now to.now to_at.now tag.now tag_at.now count.now stride.now) }
-{
-    place_in(names, from, from_at)
-        && place_in(names, to, to_at)
-        && place_in(names, tag, tag_at)
-        && is_in(names, count)
-        && stride_in(names, stride)
-}
-
 /// The lowest rule that the start of a transfer breaks.
-#[tactic(auto, unfolding(affine_ast::specs::Validity::rule_of_plain, affine_ast::specs::Rules::are_in))]
+#[tactic(auto, unfolding(affine_ast::specs::Validity::rule_of_plain))]
 pub fn rule_of_start<'a>(
     alloc: Global,
     scoped: &Scoped<'a>,
@@ -174,7 +151,12 @@ pub fn rule_of_start<'a>(
     ensures { (rest : Nest) → IfOk result (λ found. found ≡ rule_of_plain (around_of scoped.now) (plain.Start from.now from_at.now to.now to_at.now tag.now tag_at.now count.now stride.now types.now) rest) }
 {
     let names = &scoped.names;
-    if !start_in(names, from, from_at, to, to_at, tag, tag_at, count, stride) {
+    if !(place_in(names, from, from_at)
+        && place_in(names, to, to_at)
+        && place_in(names, tag, tag_at)
+        && is_in(names, count)
+        && stride_in(names, stride))
+    {
         return Ok(Some(1));
     }
     if !(access_stands(names, from_at)
