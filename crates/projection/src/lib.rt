@@ -20,4 +20,5 @@ mod value;
 
 pub use eliminating::eliminate;
 pub use fault::ReachFault;
+pub use pair::mix;
 pub use reaching::{Reached, is_empty, reach};

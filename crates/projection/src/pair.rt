@@ -12,8 +12,8 @@ use constraint_set::Row;
 use num_row::{checked_combine, gcd};
 use std::alloc::Global;
 
-/// `a * left + b * right`, coefficient by coefficient.
-fn mix(
+/// `a * left + b * right`, coefficient by coefficient: `Wide` where a product or a sum isn't in 128 bits.
+pub fn mix(
     alloc: Global,
     a: i128,
     left: &[i128],

@@ -1,0 +1,430 @@
+-- Where a region is covered each of its elements is stored to.
+use Rattle.std.proofs.Common.{◌≡◌, ℕ, zero, suc, ◌+◌, ◌-◌, ◌<◌, ◌≤◌, Bool, true, false, cond, ◌&&◌, List, [], ◌∷◌, ◌++◌, map, take, drop, length, get_or, Option, Some, None, Result, Ok, Err, ℤ, pos, refl, sym, ◌∙◌, ap, subst, arith, append_assoc, append-nil, length-append}
+use Rattle.std.specs.Prelude.{not, nat_eq, ◌||◌, Contains}
+use Rattle.std.proofs.lemmas.Bool.{and_parts, eqb-true, eq-eqb}
+use Rattle.constraint_set.specs.Lists.{Each}
+use Rattle.constraint_set.proofs.Steps.{Each-append, Each-first, Each-weaken}
+use Rattle.affine_expr.specs.declared.linear.LinearFault.{LinearFault}
+use Rattle.affine_expr.specs.Forms.{Form, LocalForm}
+use Rattle.affine_expr.specs.Linear.{◌>>=◌, variable_form}
+use Rattle.affine_expr.proofs.FormValues.{Gives, worth, variable_worth}
+use Rattle.affine_expr.proofs.Meaning.{Is, Are}
+use Rattle.affine_ast.specs.declared.image.Cells.{Cells}
+use Rattle.affine_ast.specs.declared.module.Arg.{Arg}
+use Rattle.affine_ast.specs.declared.name.Name.{Name}
+use Rattle.affine_ast.specs.declared.types.Access.{Access}
+use Rattle.affine_ast.specs.declared.types.Bound.{Bound}
+use Rattle.affine_ast.specs.Nest.{Plain, Nest, Nothing, Loop, Branch, Does, Value, Load, Store, RawLoad, RawStore, Constant, Binary, Cast, Alloc, Dealloc, Start, Wait, Return, nest}
+use Rattle.direct_meaning.specs.Static.{Env, knows, lower_of, results_of}
+use Rattle.direct_meaning.specs.Actions.{actions, action_of, after_plain, behind}
+use Rattle.direct_meaning.specs.Memory.{FitsArgs, start_env}
+use Rattle.direct_meaning.specs.Pure.{AffineNest}
+use Rattle.valid_laws.proofs.Passing.{valid_affine}
+use Rattle.nest_domain.specs.Ways.{Header, Round, Given, Except, Behind, Past, Use, Affine, Other, if_named, use_of, uses, used, loop_count}
+use Rattle.nest_domain.specs.Forms.{Formed, all_floor_rows}
+use Rattle.nest_domain.specs.Domains.{Going, Known, Accessed, map_forms, with_divisions, with_subscripts, along, symbol_count, with_arguments, nothing_known, place, access}
+use Rattle.nest_domain.specs.Visits.{Visits}
+use Rattle.nest_domain.specs.Boxes.{Dimension, AllIn, AreOver}
+use Rattle.nest_domain.proofs.Walks.{AffineWay, Holds}
+use Rattle.nest_domain.proofs.Places.{AccessArrived, access_arrives, fits_length, visits_length}
+use Rattle.nest_domain.proofs.Alongs.{visits_append, affine_append, path_affine}
+use Rattle.nest_domain.proofs.Visiting.{along_append, ArrivedTo, loop_arrives}
+use Rattle.nest_domain.proofs.Sweeps.{wanted, chosen, arrived, Unconditional, Part, Parts, Sweepable, sweeps}
+use Rattle.nest_domain.proofs.Among.{StoreIn, FoundIn, stores_found}
+use Rattle.access_region.specs.Covers.{unconditional, same_form, is_variable, variable_from, has_number, with_variable, variables_of, are_distinct, swept_by, all_swept, others_pass, sweep_all, covers_from, covers_by, covers}
+use Rattle.access_region.specs.Regions.{uses_at}
+use Rattle.access_region.specs.Laws.{IsStored, CoveredIsSwept}
+use Rattle.access_region.proofs.Covering.{same_worth, want_of, wants, parts_from}
+use Rattle.access_region.proofs.Goings.{Counted, along_counted, way_counted}
+
+on : {A B : Type 0} (w : Result A LinearFault) (f : A → Result B LinearFault) (Q : B → Type 0) → ((x : A) → w ≡ Ok x → Gives (f x) Q) → Gives (w >>= f) Q
+on (Ok x) f Q h = h x refl
+on (Err e) f Q h = tt
+
+answer : {A : Type 0} (w : Result A LinearFault) (x : A) (P : A → Type 0) → w ≡ Ok x → Gives w P → P x
+answer w x P e h = subst (λ v. Gives v P) e h
+
+-- ---- the ways of accesses behind a way
+pub record AffineBehind (acc there : List Header) : Type 0 where
+  pub inner : List Header
+  pub way : there ≡ acc ++ inner
+  pub affine : AffineWay inner
+
+abbrev IsBehind : List Header → Use → Type 0
+IsBehind acc (Affine there stores at) = AffineBehind acc there
+IsBehind acc Other = Unit {0}
+
+longer : (acc : List Header) (h : Header) → ((hs : List Header) → AffineWay hs → AffineWay (h ∷ hs)) → (us : List Use) → Each (IsBehind (acc ++ h ∷ [])) us → Each (IsBehind acc) us
+longer acc h grow us k = Each-weaken (IsBehind (acc ++ h ∷ [])) (IsBehind acc) one us k
+  where
+    one : (u : Use) → IsBehind (acc ++ h ∷ []) u → IsBehind acc u
+    one (Affine there stores at) s = record { inner = h ∷ s.inner; way = s.way ∙ append_assoc acc (h ∷ []) s.inner; affine = grow s.inner s.affine }
+    one Other s = tt
+
+module _ (name : Name) where
+  if_behind : (acc : List Header) (m : Name) (u : Use) → IsBehind acc u → Each (IsBehind acc) (if_named name m u)
+  if_behind acc m u k = by (Rattle.affine_ast.specs.Names.same_name name m)
+    where
+      by : (b : Bool) → Each (IsBehind acc) (cond b (u ∷ []) [])
+      by true = (k, tt)
+      by false = tt
+
+  here : (acc : List Header) → AffineBehind acc acc
+  here acc = record { inner = []; way = sym (append-nil acc); affine = tt }
+
+  own_behind : (p : Plain) (acc : List Header) → Each (IsBehind acc) (use_of name p acc)
+  own_behind (Value r pick at) acc = tt
+  own_behind (Load r n at ty) acc = if_behind acc n (Affine acc false at) (here acc)
+  own_behind (Store x n at ty) acc = if_behind acc n (Affine acc true at) (here acc)
+  own_behind (RawLoad r n at ty) acc = if_behind acc n Other tt
+  own_behind (RawStore x n at ty) acc = if_behind acc n Other tt
+  own_behind (Constant r z ty) acc = tt
+  own_behind (Binary r op x y ty) acc = tt
+  own_behind (Cast r kind x from to) acc = tt
+  own_behind (Alloc r ty) acc = tt
+  own_behind (Dealloc n ty) acc = if_behind acc n Other tt
+  own_behind (Start x x_at y y_at t t_at n stride types) acc =
+      Each-append (IsBehind acc) (if_named name x Other) (if_named name y Other ++ if_named name t Other) (if_behind acc x Other tt)
+      (Each-append (IsBehind acc) (if_named name y Other) (if_named name t Other) (if_behind acc y Other tt) (if_behind acc t Other tt))
+  own_behind (Wait t at n ty) acc = if_behind acc t Other tt
+  own_behind Return acc = tt
+
+  uses_behind : (n : Nest) (acc : List Header) → AffineNest n → Each (IsBehind acc) (uses name n acc)
+  unfolding uses
+  uses_behind Nothing acc a = tt
+  uses_behind (Loop line v l u s body rest) acc a =
+      Each-append (IsBehind acc) (uses name body (acc ++ Round v l u s ∷ [])) (uses name rest (acc ++ Past body ∷ []))
+      (longer acc (Round v l u s) (λ hs k. (a.0, a.1, a.2, k)) (uses name body (acc ++ Round v l u s ∷ [])) (uses_behind body (acc ++ Round v l u s ∷ []) a.3))
+      (longer acc (Past body) (λ hs k. k) (uses name rest (acc ++ Past body ∷ [])) (uses_behind rest (acc ++ Past body ∷ []) a.4))
+  uses_behind (Branch line set names first has other rest) acc a =
+      Each-append (IsBehind acc) (uses name first (acc ++ Given set names ∷ [])) (uses name other (acc ++ Except set names first ∷ []) ++ uses name rest ((acc ++ Past first ∷ []) ++ Past other ∷ []))
+      (longer acc (Given set names) (λ hs k. k) (uses name first (acc ++ Given set names ∷ [])) (uses_behind first (acc ++ Given set names ∷ []) a.0))
+      (Each-append (IsBehind acc) (uses name other (acc ++ Except set names first ∷ [])) (uses name rest ((acc ++ Past first ∷ []) ++ Past other ∷ []))
+      (longer acc (Except set names first) (λ hs k. k) (uses name other (acc ++ Except set names first ∷ [])) (uses_behind other (acc ++ Except set names first ∷ []) a.1))
+      (longer acc (Past first) (λ hs k. k) (uses name rest ((acc ++ Past first ∷ []) ++ Past other ∷ [])) (longer (acc ++ Past first ∷ []) (Past other) (λ hs k. k) (uses name rest ((acc ++ Past first ∷ []) ++ Past other ∷ [])) (uses_behind rest ((acc ++ Past first ∷ []) ++ Past other ∷ []) a.2))))
+  uses_behind (Does line p rest) acc a =
+      Each-append (IsBehind acc) (use_of name p acc) (uses name rest (acc ++ Behind p ∷ [])) (own_behind p acc)
+      (longer acc (Behind p) (λ hs k. (a.0, k)) (uses name rest (acc ++ Behind p ∷ [])) (uses_behind rest (acc ++ Behind p ∷ []) a.1))
+
+drop_front : {A : Type 0} (xs ys : List A) → drop (length xs) (xs ++ ys) ≡ ys
+drop_front [] ys = refl
+drop_front (x ∷ xs) ys = drop_front xs ys
+
+unconditional_is : (hs : List Header) → unconditional hs ≡ true → Unconditional hs
+unconditional_is [] h = tt
+unconditional_is (Round v l u s ∷ hs) h = unconditional_is hs h
+unconditional_is (Given set names ∷ hs) h = absurd (let z : ⊥ = cc in z)
+unconditional_is (Except set names first ∷ hs) h = absurd (let z : ⊥ = cc in z)
+unconditional_is (Behind p ∷ hs) h = unconditional_is hs h
+unconditional_is (Past n ∷ hs) h = unconditional_is hs h
+
+-- ---- the turns that are chosen
+chosen_long : (hs : List Header) (ws : List (Option ℤ)) (e : Env) → length (chosen hs ws e) ≡ loop_count hs
+chosen_long [] ws e = refl
+chosen_long (Round v l u s ∷ hs) [] e = ap suc (chosen_long hs [] (knows e v (lower_of e l)))
+chosen_long (Round v l u s ∷ hs) (w ∷ ws) e = ap suc (chosen_long hs ws (knows e v (wanted w (lower_of e l))))
+chosen_long (Given set names ∷ hs) ws e = chosen_long hs ws e
+chosen_long (Except set names first ∷ hs) ws e = chosen_long hs ws (behind first e)
+chosen_long (Behind p ∷ hs) ws e = chosen_long hs ws (after_plain p e)
+chosen_long (Past n ∷ hs) ws e = chosen_long hs ws (behind n e)
+
+chosen_at : (hs : List Header) (ws : List (Option ℤ)) (e : Env) (i : ℕ) (x : ℤ) → i < loop_count hs → get_or ws i None ≡ Some x → get_or (chosen hs ws e) i (pos 0) ≡ x
+chosen_at [] ws e i x h w = absurd (omega (arith, h))
+chosen_at (Round v l u s ∷ hs) [] e i x h w = absurd (let z : ⊥ = cc in z)
+chosen_at (Round v l u s ∷ hs) (o ∷ ws) e zero x h w = ap (λ p. wanted p (lower_of e l)) w
+chosen_at (Round v l u s ∷ hs) (o ∷ ws) e (suc i) x h w = chosen_at hs ws (knows e v (wanted o (lower_of e l))) i x (omega (arith, h)) w
+chosen_at (Given set names ∷ hs) ws e i x h w = chosen_at hs ws e i x h w
+chosen_at (Except set names first ∷ hs) ws e i x h w = chosen_at hs ws (behind first e) i x h w
+chosen_at (Behind p ∷ hs) ws e i x h w = chosen_at hs ws (after_plain p e) i x h w
+chosen_at (Past n ∷ hs) ws e i x h w = chosen_at hs ws (behind n e) i x h w
+
+wants_at : (j n : ℕ) (js : List ℕ) (xs : List ℤ) (i : ℕ) → i < n → get_or (wants j n js xs) i None ≡ want_of (j + i) js xs
+unfolding wants
+wants_at j zero js xs i h = absurd (omega (arith, h))
+wants_at j (suc n) js xs zero h = ap (λ k. want_of k js xs) (omega arith)
+wants_at j (suc n) js xs (suc i) h = wants_at (suc j) n js xs i (omega (arith, h)) ∙ ap (λ k. want_of k js xs) (next j i)
+  where
+    next : (j i : ℕ) → suc j + i ≡ j + suc i
+    next j i = omega arith
+
+want_has : (j : ℕ) (js : List ℕ) (xs : List ℤ) (x : ℤ) → want_of j js xs ≡ Some x → has_number j js ≡ true
+unfolding want_of
+want_has j [] xs x h = absurd (let z : ⊥ = cc in z)
+want_has j (k ∷ ks) [] x h = absurd (let z : ⊥ = cc in z)
+want_has j (k ∷ ks) (y ∷ ys) x h = by (nat_eq j k) h (λ e. want_has j ks ys x e)
+  where
+    by : (b : Bool) → cond b (Some y) (want_of j ks ys) ≡ Some x → (want_of j ks ys ≡ Some x → has_number j ks ≡ true) → (b || has_number j ks) ≡ true
+    by true e more = refl
+    by false e more = more e
+
+same_number : (k : ℕ) → nat_eq k k ≡ true
+same_number k = eq-eqb k k refl
+
+-- the numbers that are wanted of distinct variables are those wanted
+all_wanted : (js : List ℕ) (xs : List ℤ) (V : ℕ → ℤ) → are_distinct js ≡ true → length js ≡ length xs → ((j : ℕ) (x : ℤ) → want_of j js xs ≡ Some x → V j ≡ x) → map V js ≡ xs
+unfolding want_of
+all_wanted [] [] V d l h = refl
+all_wanted [] (x ∷ xs) V d l h = absurd (omega (arith, l))
+all_wanted (k ∷ ks) [] V d l h = absurd (omega (arith, l))
+all_wanted (k ∷ ks) (x ∷ xs) V d l h =
+    let both = and_parts (not (has_number k ks)) (are_distinct ks) d in
+    (λ i. h k x (ap (λ b. cond b (Some x) (want_of k ks xs)) (same_number k)) i ∷ all_wanted ks xs V both.1 (omega (arith, l)) (λ j y w. h j y (skipped j y w both.0)) i)
+  where
+    skipped : (j : ℕ) (y : ℤ) → want_of j ks xs ≡ Some y → not (has_number k ks) ≡ true → cond (nat_eq j k) (Some x) (want_of j ks xs) ≡ Some y
+    skipped j y w n = by (nat_eq j k) refl
+      where
+        by : (b : Bool) → nat_eq j k ≡ b → cond b (Some x) (want_of j ks xs) ≡ Some y
+        by false e = w
+        by true e = absurd (let s : j ≡ k = eqb-true j k e in let t : has_number k ks ≡ true = ap (λ m. has_number m ks) (sym s) ∙ want_has j ks xs y w in let u : not true ≡ true = ap not (sym t) ∙ n in let z : ⊥ = cc in z)
+
+-- ---- the variables that the subscripts are
+pub record Named (first n : ℕ) (p : List ℤ) (j : ℕ) (v : ℤ) : Type 0 where
+  pub low : first ≤ j
+  pub high : j < first + n
+  pub is : v ≡ get_or p j (pos 0)
+
+variable_named : (n first : ℕ) (m : ℕ) (p : List ℤ) (f : Form) (v : ℤ) (j : ℕ) → Is m p f v → variable_from n first f ≡ Some j → Named first n p j v
+variable_named zero first m p f v j i h = absurd (let z : ⊥ = cc in z)
+variable_named (suc n) first m p f v j i h = by (is_variable first f) refl h (λ k. variable_named n (suc first) m p f v j i k)
+  where
+    by : (b : Bool) → is_variable first f ≡ b → cond b (Some first) (variable_from n (suc first) f) ≡ Some j → (variable_from n (suc first) f ≡ Some j → Named (suc first) n p j v) → Named first (suc n) p j v
+    by true e h more =
+        let s : first ≡ j = cc in
+        subst (λ k. Named first (suc n) p k v) s (record {
+          low = omega arith;
+          high = omega arith;
+          is = sym i.same ∙ same_worth f (variable_form (suc first) first) e p ∙ variable_worth (suc first) first p (omega arith);
+        })
+    by false e h more = let r = more h in record { low = let l = r.low in omega (arith, l); high = let l = r.high in omega (arith, l); is = r.is }
+
+abbrev AllNamed : ℕ → ℕ → List ℤ → List ℕ → List ℤ → Type 0
+AllNamed first n p [] [] = Unit {0}
+AllNamed first n p [] (v ∷ vs) = ⊥
+AllNamed first n p (j ∷ js) [] = ⊥
+AllNamed first n p (j ∷ js) (v ∷ vs) = Named first n p j v × AllNamed first n p js vs
+
+variables_named : (n first m : ℕ) (p : List ℤ) (fs : List Form) (vs : List ℤ) (js : List ℕ) → Are m p fs vs → variables_of n first fs ≡ Some js → AllNamed first n p js vs
+variables_named n first m p [] [] js a h = subst (λ ks. AllNamed first n p ks []) (let e : [] ≡ js = cc in e) tt
+variables_named n first m p [] (v ∷ vs) js a h = absurd a
+variables_named n first m p (f ∷ fs) [] js a h = absurd a
+variables_named n first m p (f ∷ fs) (v ∷ vs) js a h = by (variable_from n first f) refl (variables_of n first fs) refl h (λ ks g. variables_named n first m p fs vs ks a.1 g)
+  where
+    by : (w : Option ℕ) → variable_from n first f ≡ w → (ws : Option (List ℕ)) → variables_of n first fs ≡ ws → with_variable w ws ≡ Some js → ((ks : List ℕ) → variables_of n first fs ≡ Some ks → AllNamed first n p ks vs) → AllNamed first n p js (v ∷ vs)
+    by None e ws g h more = absurd (let z : ⊥ = cc in z)
+    by (Some j) e None g h more = absurd (let z : ⊥ = cc in z)
+    by (Some j) e (Some ks) g h more = subst (λ ls. AllNamed first n p ls (v ∷ vs)) (let s : j ∷ ks ≡ js = cc in s) (variable_named n first m p f v j a.0 e, more ks g)
+
+named_values : (first n : ℕ) (p : List ℤ) (js : List ℕ) (vs : List ℤ) → AllNamed first n p js vs → vs ≡ map (λ j. get_or p j (pos 0)) js
+named_values first n p [] [] h = refl
+named_values first n p [] (v ∷ vs) h = absurd h
+named_values first n p (j ∷ js) [] h = absurd h
+named_values first n p (j ∷ js) (v ∷ vs) h = λ i. h.0.is i ∷ named_values first n p js vs h.1 i
+
+named_within : (first n : ℕ) (p : List ℤ) (js : List ℕ) (vs : List ℤ) → AllNamed first n p js vs → (j : ℕ) → has_number j js ≡ true → (first ≤ j) × (j < first + n)
+named_within first n p [] vs h j k = absurd (let z : ⊥ = cc in z)
+named_within first n p (i ∷ js) [] h j k = absurd h
+named_within first n p (i ∷ js) (v ∷ vs) h j k = by (nat_eq j i) refl k (λ m. named_within first n p js vs h.1 j m)
+  where
+    by : (b : Bool) → nat_eq j i ≡ b → (b || has_number j js) ≡ true → (has_number j js ≡ true → (first ≤ j) × (j < first + n)) → (first ≤ j) × (j < first + n)
+    by true e k more = let s : j ≡ i = eqb-true j i e in let a = h.0.low in let c = h.0.high in (omega (arith, s, a), omega (arith, s, c))
+    by false e k more = more k
+
+-- ---- lists of one length
+swept_long : (first : ℕ) (gs : List Going) (ds : List Dimension) (js : List ℕ) → all_swept first gs ds js ≡ true → length ds ≡ length js
+swept_long first gs [] [] h = refl
+swept_long first gs [] (j ∷ js) h = absurd (let z : ⊥ = cc in z)
+swept_long first gs (d ∷ ds) [] h = absurd (let z : ⊥ = cc in z)
+swept_long first gs (d ∷ ds) (j ∷ js) h = ap suc (swept_long first gs ds js (and_parts (swept_by d (Rattle.std.specs.Prelude.slice_get gs (j - first))) (all_swept first gs ds js) h).1)
+
+in_long : (ds : List Dimension) (sizes : List ℕ) (os xs : List ℤ) → AllIn ds sizes os xs → length ds ≡ length xs
+in_long [] [] os [] h = refl
+in_long [] [] os (x ∷ xs) h = absurd h
+in_long [] (s ∷ sizes) os xs h = absurd h
+in_long (d ∷ ds) [] os xs h = absurd h
+in_long (d ∷ ds) (s ∷ sizes) os [] h = absurd h
+in_long (d ∷ ds) (s ∷ sizes) os (x ∷ xs) h = ap suc (in_long ds sizes os xs h.2)
+
+get_behind : (os us more : List ℤ) (i : ℕ) → i < length us → get_or (os ++ (us ++ more)) (length os + i) (pos 0) ≡ get_or us i (pos 0)
+get_behind os us more i h = skip os ∙ front us i h
+  where
+    front : (us : List ℤ) (j : ℕ) → j < length us → get_or (us ++ more) j (pos 0) ≡ get_or us j (pos 0)
+    front [] j h = absurd (omega (arith, h))
+    front (u ∷ us) zero h = refl
+    front (u ∷ us) (suc j) h = front us j (omega (arith, h))
+
+    zeroth : (i : ℕ) → 0 + i ≡ i
+    zeroth i = omega arith
+
+    further : (n i : ℕ) → suc n + i ≡ suc (n + i)
+    further n i = omega arith
+
+    skip : (os : List ℤ) → get_or (os ++ (us ++ more)) (length os + i) (pos 0) ≡ get_or (us ++ more) i (pos 0)
+    skip [] = ap (λ m. get_or (us ++ more) m (pos 0)) (zeroth i)
+    skip (o ∷ os) = ap (λ m. get_or (o ∷ (os ++ (us ++ more))) m (pos 0)) (further (length os) i) ∙ skip os
+
+-- ---- where the region is come to
+-- the rows of an access, by the loop on its way
+pub record Parted (args : List Arg) (way inner : List Header) (at : Access) (a : Accessed) : Type 0 where
+  pub k : Known
+  pub g : Known
+  pub outside : (with_arguments args (nothing_known (symbol_count args + loop_count (way ++ inner))) >>= along way (used inner at.operands)) ≡ Ok k
+  pub inside : along inner at.operands k ≡ Ok g
+  pub goings : a.known.goings ≡ g.goings
+
+parted : (args : List Arg) (way inner : List Header) (at : Access) → Gives (access args (way ++ inner) at) (Parted args way inner at)
+unfolding access place
+parted args way inner at =
+    by (with_arguments args (nothing_known (symbol_count args + loop_count (way ++ inner)))) refl
+  where
+    Q : Accessed → Type 0
+    Q = Parted args way inner at
+
+    rest : Known → Result Accessed LinearFault
+    rest k = map_forms k.forms k.next at [] >>= (λ formed. with_subscripts formed k)
+
+    divisions : (ls : List LocalForm) (g : Known) → Gives (with_divisions ls g) (λ r. r.goings ≡ g.goings)
+    divisions ls g = on (all_floor_rows ls) _ (λ r. r.goings ≡ g.goings) (λ rows e. refl)
+
+    ended : (k g : Known) → (with_arguments args (nothing_known (symbol_count args + loop_count (way ++ inner))) >>= along way (used inner at.operands)) ≡ Ok k → along inner at.operands k ≡ Ok g → Gives (map_forms g.forms g.next at [] >>= (λ formed. with_subscripts formed g)) (Parted args way inner at)
+    ended k g o i = on (map_forms g.forms g.next at []) (λ formed. with_subscripts formed g) (Parted args way inner at) (λ formed e.
+        on (with_divisions formed.locals g) _ (Parted args way inner at) (λ r d. record { k = k; g = g; outside = o; inside = i; goings = answer (with_divisions formed.locals g) r (λ r. r.goings ≡ g.goings) d (divisions formed.locals g) }))
+
+    by : (w : Result Known LinearFault) → with_arguments args (nothing_known (symbol_count args + loop_count (way ++ inner))) ≡ w → Gives ((w >>= along (way ++ inner) at.operands) >>= (λ k. map_forms k.forms k.next at [] >>= (λ formed. with_subscripts formed k))) (Parted args way inner at)
+    by (Err e) h = tt
+    by (Ok k0) h = subst (λ w. Gives (w >>= (λ k. map_forms k.forms k.next at [] >>= (λ formed. with_subscripts formed k))) (Parted args way inner at)) (sym (along_append way inner at.operands k0)) (more (along way (used inner at.operands) k0) refl)
+      where
+        more : (w : Result Known LinearFault) → along way (used inner at.operands) k0 ≡ w → Gives ((w >>= along inner at.operands) >>= (λ k. map_forms k.forms k.next at [] >>= (λ formed. with_subscripts formed k))) (Parted args way inner at)
+        more (Err e) o = tt
+        more (Ok k) o = last (along inner at.operands k) refl
+          where
+            last : (w : Result Known LinearFault) → along inner at.operands k ≡ w → Gives (w >>= (λ k. map_forms k.forms k.next at [] >>= (λ formed. with_subscripts formed k))) (Parted args way inner at)
+            last (Err e) i = tt
+            last (Ok g) i = ended k g (ap (λ w. w >>= along way (used inner at.operands)) h ∙ o) i
+
+module _ (args : List Arg) (cells : List Cells) (zs : List ℤ) (fits : FitsArgs args cells zs) (way : List Header) (affine : AffineWay way) (ts : List ℤ) (f : Env) (visits : Visits way (start_env args zs) ts f) where
+  swept : (inner : List Header) (name value : Name) (ty : Rattle.affine_ast.specs.declared.types.MemrefType.MemrefType) (n : Nest) (at : Access) (a : Accessed) → access args (way ++ inner) at ≡ Ok a → AffineWay inner → Unconditional inner
+      → ((e : Env) (ws : List ℤ) (g : Env) → Visits inner e ws g → Contains (actions n e) (action_of (Store value name at ty) g))
+      → (ds : List Dimension) (sizes : List ℕ) → covers_from (symbol_count args + loop_count way) (loop_count way) ds a ≡ true → AreOver (symbol_count args + loop_count way) ds → (xs : List ℤ) → AllIn ds sizes (zs ++ ts) xs → IsStored name xs n f
+  swept inner name value ty n at a is aff uncond found ds sizes c over xs within =
+      let p = answer (access args (way ++ inner) at) a (Parted args way inner at) is (parted args way inner at) in
+      let s = answer (along inner at.operands p.k) p.g (Sweepable (zs ++ ts) inner p.k) p.inside (sweeps (zs ++ ts) inner at.operands p.k aff uncond) in
+      let count = answer _ p.k (Counted (loop_count way)) p.outside (way_counted args (symbol_count args + loop_count (way ++ inner)) way (used inner at.operands)) in
+      let gs_is : drop (loop_count way) a.known.goings ≡ s.gs = ap (drop (loop_count way)) (p.goings ∙ s.grown) ∙ ap (λ m. drop m (p.k.goings ++ s.gs)) (sym count) ∙ drop_front p.k.goings s.gs in
+      by (variables_of (length s.gs) (symbol_count args + loop_count way) a.forms) p s refl (subst (λ gs. sweep_all (symbol_count args + loop_count way) gs ds (variables_of (length gs) (symbol_count args + loop_count way) a.forms) ≡ true) gs_is c)
+    where
+      outer : ℕ
+      outer = symbol_count args + loop_count way
+
+      long : length (zs ++ ts) ≡ symbol_count args + loop_count way
+      long = omega (arith, length-append zs ts, fits_length args cells zs fits, visits_length way (start_env args zs) ts f visits)
+
+      by : (w : Option (List ℕ)) → (p : Parted args way inner at a) (s : Sweepable (zs ++ ts) inner p.k p.g) → variables_of (length s.gs) (symbol_count args + loop_count way) a.forms ≡ w → sweep_all (symbol_count args + loop_count way) s.gs ds w ≡ true → IsStored name xs n f
+      by None p s v c = absurd (let z : ⊥ = cc in z)
+      by (Some js) p s v c =
+          let os = zs ++ ts in
+          let n0 = length s.gs in
+          let one = and_parts (are_distinct js) (all_swept outer s.gs ds js && others_pass outer s.gs js) c in
+          let two = and_parts (all_swept outer s.gs ds js) (others_pass outer s.gs js) one.1 in
+          let ws = wants outer n0 js xs in
+          let us = chosen inner ws f in
+          let g = arrived inner ws f in
+          let loops : n0 ≡ loop_count inner = counted p s in
+          let parts : Parts os s.gs ws = subst (λ m. Parts os s.gs (wants m n0 js xs)) (plus_none outer)
+          (parts_from os outer s.gs js ds sizes xs two.0 within (subst (λ m. AreOver m ds) (sym long) over) [] s.gs refl (subst (λ m. others_pass m s.gs js ≡ true) (sym (plus_none outer)) two.1)) in
+          let there = answer _ p.k (ArrivedTo (zs ++ (ts ++ us)) us f) p.outside (loop_arrives args cells zs way inner (used inner at.operands) ts us f fits affine visits (chosen_long inner ws f) (loops_append way inner)) in
+          let vis : Visits inner f us g = s.visits f (us ++ there.more) ws (ap length (sym (nested us there.more)) ∙ there.long) there.ranges (subst (λ q. Holds p.k.next q us p.k f.known) (nested us there.more) there.holds) parts in
+          let acc = answer (access args (way ++ inner) at) a (AccessArrived (zs ++ (ts ++ us)) (results_of g at)) is
+          (access_arrives args cells zs (way ++ inner) at (ts ++ us) g fits (affine_append way inner affine aff) (visits_append way inner (start_env args zs) f g ts us visits vis)) in
+          let P = (zs ++ (ts ++ us)) ++ acc.more in
+          let named = variables_named n0 outer a.known.next P a.forms (results_of g at) js acc.forms v in
+          record {
+            value = value;
+            at = at;
+            ty = ty;
+            env = g;
+            subscripts = named_values outer n0 P js (results_of g at) named
+                ∙ all_wanted js xs (λ j. get_or P j (pos 0)) one.0 (sym (swept_long outer s.gs ds js two.0) ∙ in_long ds sizes os xs within) (λ j x w.
+                value_at j x acc.more js n0 ws us refl refl loops w (named_within outer n0 P js (results_of g at) named j (want_has j js xs x w)));
+            found = found f us g vis;
+          }
+        where
+          plus_none : (m : ℕ) → m + 0 ≡ m
+          plus_none m = omega arith
+
+          loops_append : (hs ks : List Header) → loop_count (hs ++ ks) ≡ loop_count hs + loop_count ks
+          loops_append [] ks = sym (none (loop_count ks))
+            where
+              none : (n : ℕ) → 0 + n ≡ n
+              none n = omega arith
+          loops_append (Round v l u s ∷ hs) ks = ap suc (loops_append hs ks) ∙ further (loop_count hs) (loop_count ks)
+            where
+              further : (n m : ℕ) → suc (n + m) ≡ suc n + m
+              further n m = omega arith
+          loops_append (Given set names ∷ hs) ks = loops_append hs ks
+          loops_append (Except set names first ∷ hs) ks = loops_append hs ks
+          loops_append (Behind p ∷ hs) ks = loops_append hs ks
+          loops_append (Past n ∷ hs) ks = loops_append hs ks
+
+          nested : (us more : List ℤ) → (zs ++ (ts ++ us)) ++ more ≡ (zs ++ ts) ++ (us ++ more)
+          nested us more = ap (λ x. x ++ more) (sym (append_assoc zs ts us)) ∙ append_assoc (zs ++ ts) us more
+
+          counted : (p : Parted args way inner at a) (s : Sweepable (zs ++ ts) inner p.k p.g) → length s.gs ≡ loop_count inner
+          counted p s =
+              let all = answer (along inner at.operands p.k) p.g (Counted (length p.k.goings + loop_count inner)) p.inside (along_counted inner at.operands p.k (length p.k.goings + loop_count inner) refl) in
+              omega (arith, all, ap length s.grown, length-append p.k.goings s.gs)
+
+          value_at : (j : ℕ) (x : ℤ) (more : List ℤ) (js : List ℕ) (n0 : ℕ) (ws : List (Option ℤ)) (us : List ℤ) → ws ≡ wants outer n0 js xs → us ≡ chosen inner ws f → n0 ≡ loop_count inner → want_of j js xs ≡ Some x → (outer ≤ j) × (j < outer + n0)
+              → get_or ((zs ++ (ts ++ us)) ++ more) j (pos 0) ≡ x
+          value_at j x more js n0 ws us we ue loops w r =
+              let low = r.0 in
+              let high = r.1 in
+              let size : length us ≡ loop_count inner = ap length ue ∙ chosen_long inner ws f in
+              let there : j ≡ length (zs ++ ts) + (j - outer) = omega (arith, low, long) in
+              ap (λ q. get_or q j (pos 0)) (nested us more)
+              ∙ ap (λ m. get_or ((zs ++ ts) ++ (us ++ more)) m (pos 0)) there
+              ∙ get_behind (zs ++ ts) us more (j - outer) (omega (arith, low, high, size, loops))
+              ∙ ap (λ q. get_or q (j - outer) (pos 0)) ue
+              ∙ chosen_at inner ws f (j - outer) x (omega (arith, low, high, loops)) (ap (λ q. get_or q (j - outer) None) we ∙ wants_at outer n0 js xs (j - outer) (omega (arith, low, high)) ∙ ap (λ m. want_of m js xs) (back j low) ∙ w)
+            where
+              back : (j : ℕ) → outer ≤ j → outer + (j - outer) ≡ j
+              back j h = omega (arith, h)
+
+-- the one store that covers
+pub record Covering (args : List Arg) (way : List Header) (us : List Use) (outer : ℕ) (ds : List Dimension) : Type 0 where
+  pub there : List Header
+  pub at : Access
+  pub one : us ≡ Affine there true at ∷ []
+  pub free : unconditional (drop (length way) there) ≡ true
+  pub accessed : Accessed
+  pub is : access args there at ≡ Ok accessed
+  pub sweep : covers_from outer (loop_count way) ds accessed ≡ true
+
+covering : (args : List Arg) (way : List Header) (us : List Use) (outer : ℕ) (ds : List Dimension) → covers args way us outer ds ≡ true → Covering args way us outer ds
+unfolding covers
+covering args way [] outer ds h = absurd (let z : ⊥ = cc in z)
+covering args way (Other ∷ us) outer ds h = absurd (let z : ⊥ = cc in z)
+covering args way (Affine there false at ∷ us) outer ds h = absurd (let z : ⊥ = cc in z)
+covering args way (Affine there true at ∷ (u ∷ us)) outer ds h = absurd (let z : ⊥ = cc in z)
+covering args way (Affine there true at ∷ []) outer ds h =
+    let both = and_parts (unconditional (drop (length way) there)) (covers_by outer (loop_count way) ds (access args there at)) h in
+    by (access args there at) refl both.0 both.1
+  where
+    by : (w : Result Accessed LinearFault) → access args there at ≡ w → unconditional (drop (length way) there) ≡ true → covers_by outer (loop_count way) ds w ≡ true → Covering args way (Affine there true at ∷ []) outer ds
+    by (Err e) i u c = absurd (let z : ⊥ = cc in z)
+    by (Ok a) i u c = record { there = there; at = at; one = refl; free = u; accessed = a; is = i; sweep = c }
+
+pub covered_is_swept : CoveredIsSwept
+unfolding uses
+covered_is_swept m valid memory fits steps way line v l u s body rest at_is name sizes ds c over turns f visits xs within =
+    let outer = symbol_count m.args + loop_count way in
+    let us = uses_at name way v l u s body in
+    let p = path_affine (nest m.body) steps (record { way = way; here = Loop line v l u s body rest }) (valid_affine m valid) at_is in
+    let loop = Loop line v l u s body Nothing in
+    let affine_loop : AffineNest loop = (p.1.0, p.1.1, p.1.2, p.1.3, tt) in
+    let k = covering m.args way us outer ds c in
+    let stores = subst (λ w. Each (FoundIn name loop way) (w ++ [])) k.one (stores_found name loop way affine_loop) in
+    let behind_ = subst (λ w. Each (IsBehind way) (w ++ [])) k.one (uses_behind name loop way affine_loop) in
+    let found = stores.0 in
+    let same : found.inner ≡ behind_.0.inner = sym (drop_front way found.inner) ∙ ap (drop (length way)) (sym found.way ∙ behind_.0.way) ∙ drop_front way behind_.0.inner in
+    let free : Unconditional found.inner = unconditional_is found.inner (ap unconditional (sym (drop_front way found.inner) ∙ ap (drop (length way)) (sym found.way)) ∙ k.free) in
+    swept m.args memory.memrefs memory.symbols fits.fits way p.0 turns f visits found.inner name found.value found.ty loop k.at k.accessed (ap (λ w. access m.args w k.at) (sym found.way) ∙ k.is) (subst AffineWay (sym same) behind_.0.affine) free found.found ds sizes k.sweep over xs within

@@ -1,0 +1,9 @@
+pub mod Inside
+pub mod Regioned
+pub mod Widened
+pub mod Wholes
+pub mod Reaches
+pub mod Lengths
+pub mod Goings
+pub mod Covering
+pub mod Covered

@@ -1,0 +1,10 @@
+pub mod Converted
+pub mod Faults
+pub mod Candidates
+pub mod Spans
+pub mod Regions
+pub mod Widening
+pub mod Widened
+pub mod Places
+pub mod Covers
+pub mod Laws

@@ -1,0 +1,37 @@
+//! The region of a memref at a loop: a box, at each turn of the outer loops, that holds the accesses of the memref in the loop.
+#![tactic(auto)]
+
+ghost use Rattle.access_region.specs.Laws.{RegionsLieWithin, RegionsHold, RegionsAreOver, CoveredIsSwept};
+
+mod candidate;
+mod dimension;
+mod fault;
+mod reaching;
+mod span;
+mod widening;
+
+pub use dimension::box_of;
+pub use fault::RegionFault;
+pub use reaching::{Going, Outside, Reaching};
+pub use widening::widen_for_transfers;
+
+/// At all whole values of the outer variables and the locals that meet the rows of the loop's outside the region lies within the memref.
+pub fn regions_lie_within()
+    ensures { RegionsLieWithin }
+{}
+
+/// In each visit of a loop of a valid module the region lies within the memref, and each subscript of an affine access in the loop that
+/// lies within its size lies in the region.
+pub fn regions_hold()
+    ensures { RegionsHold }
+{}
+
+/// A region has a coefficient for each outer variable.
+pub fn regions_are_over()
+    ensures { RegionsAreOver }
+{}
+
+/// Where a region is covered, each of its elements is stored to in each visit of the loop, and by one store, so none is loaded.
+pub fn covered_is_swept()
+    ensures { CoveredIsSwept }
+{}
