@@ -2,7 +2,7 @@
 //
 // A file is a list of cases. A case has these lines, in this order; a line in brackets may be missing:
 //
-//     #### words W W ..
+//     #### words W W ..       "" is a word without letters
 //     [#### most-read N]      most bytes that a read gives (else 4,096)
 //     [#### fails-read N ..]  the numbers of the reads that fail, from 1
 //     [#### most-write N]     most bytes that a write takes (else 4,096)
@@ -93,7 +93,9 @@ fn read_given<'a>(bytes: &'a [u8]) -> Option<(Given<'a>, &'a [u8])> {
 fn words_of<'a>(alloc: Global, text: &'a str) -> Result<Vec<&'a str>, AllocError> {
     let mut words = Vec::new(alloc);
     for word in text.split(' ') {
-        if !word.is_empty() {
+        if word == "\"\"" {
+            words.push("")?;
+        } else if !word.is_empty() {
             words.push(word)?;
         }
     }

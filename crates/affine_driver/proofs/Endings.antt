@@ -19,7 +19,7 @@ use Rattle.run_laws.specs.StaysFitting.{with_slow}
 use Rattle.mem_image.specs.Laws.{SpellsOne, BreaksOne, NotBoth}
 use Rattle.source_parts.specs.Parts.{text_part, image_part}
 use Rattle.affine_driver.specs.declared.command.Command.{Command}
-use Rattle.affine_driver.specs.declared.command.Command.TheVariants.{Check, Stage, Plain}
+use Rattle.affine_driver.specs.declared.command.Command.TheVariants.{Check, Regions, Stage, Plain, Run, Order, Both, Sample}
 use Rattle.affine_driver.specs.declared.ending.Ending.{Ending}
 use Rattle.affine_driver.specs.declared.ending.Ending.TheVariants.{Done, Words, ReadFault, TooLong, Text, Invalid, Image, Fault, Unbuilt, WriteFault, Memory, Turns}
 use Rattle.affine_driver.specs.Output.{work_limit, IsPlainOutput, IsOutput}
@@ -81,8 +81,9 @@ Limited input Rest e = ((line : ℕ) × ((plain_fault input ≡ Some line) × (e
 
 abbrev pub Asked : Command → List ℕ → Module → Ending → Type 0
 Asked Check text input e = e ≡ Done
-Asked Stage text input e = Limited input (Formed input) e
+Asked (Stage options) text input e = Limited input (Formed input) e
 Asked Plain text input e = Limited input (Imaged text input) e
+Asked unbuilt text input e = ⊥
 
 abbrev pub Ruled : Command → List ℕ → Module → Ending → Type 0
 Ruled command text input e = ((line : ℕ) × ((rule : ℕ) × ((first_broken input ≡ Some (line, rule)) × (e ≡ Invalid line rule)))) ⊎ (IsValid input × Asked command text input e)
@@ -136,8 +137,13 @@ one_limited input R one e f (inr h) (inr k) = one e f h.1 k.1
 
 one_asked : ImageLaws → (command : Command) (text : List ℕ) (input : Module) → Once (Asked command text input)
 one_asked laws Check text input e f h k = h ∙ sym k
-one_asked laws Stage text input e f h k = one_limited input (Formed input) (one_formed input) e f h k
+one_asked laws (Stage options) text input e f h k = one_limited input (Formed input) (one_formed input) e f h k
 one_asked laws Plain text input e f h k = one_limited input (Imaged text input) (one_imaged laws text input) e f h k
+one_asked laws (Regions options) text input e f h k = absurd h
+one_asked laws (Run options) text input e f h k = absurd h
+one_asked laws (Order options) text input e f h k = absurd h
+one_asked laws (Both options) text input e f h k = absurd h
+one_asked laws (Sample options) text input e f h k = absurd h
 
 one_ruled : ImageLaws → (command : Command) (text : List ℕ) (input : Module) → Once (Ruled command text input)
 one_ruled laws command text input e f (inl h) (inl k) =
@@ -167,8 +173,13 @@ one_told texts laws command source e f (inr h) (inr k) =
 
 told_asked : (command : Command) (text : List ℕ) (input : Module) (line : ℕ) → AsksPlain command → plain_fault input ≡ Some line → Asked command text input (Invalid line 13)
 told_asked Check text input line a p = absurd a
-told_asked Stage text input line a p = inl (line, (p, refl))
+told_asked (Stage options) text input line a p = inl (line, (p, refl))
 told_asked Plain text input line a p = inl (line, (p, refl))
+told_asked (Regions options) text input line a p = absurd a
+told_asked (Run options) text input line a p = absurd a
+told_asked (Order options) text input line a p = absurd a
+told_asked (Both options) text input line a p = absurd a
+told_asked (Sample options) text input line a p = absurd a
 
 told_invalid : (command : Command) (source : List ℕ) (line rule : ℕ) → IsInvalid command source line rule → Told command source (Invalid line rule)
 told_invalid command source line rule h = inr (h.input, (h.spelled, by_rule h.broken))
@@ -194,8 +205,14 @@ told_fault command source kind h =
     (told_has source h.input h.memory (Fault kind) h.has (inr (h.within, inl (kind, (h.stops, refl)))))
 
 told_unbuilt : (command : Command) (source : List ℕ) → IsUnbuilt command source → Told command source Unbuilt
-told_unbuilt command source h =
-    subst (λ c. Told c source Unbuilt) (sym h.stages) (inr (h.input, (h.spelled, inr (h.valid.0, inr (h.valid.1, inl (h.other, refl))))))
+told_unbuilt (Stage options) source h = inr (h.input, (h.spelled, inr (h.valid.0, inr (h.valid.1, inl (h.other, refl)))))
+told_unbuilt Check source h = absurd h.stages
+told_unbuilt Plain source h = absurd h.stages
+told_unbuilt (Regions options) source h = absurd h.stages
+told_unbuilt (Run options) source h = absurd h.stages
+told_unbuilt (Order options) source h = absurd h.stages
+told_unbuilt (Both options) source h = absurd h.stages
+told_unbuilt (Sample options) source h = absurd h.stages
 
 told : (command : Command) (source : List ℕ) (e : Ending) → Refuses command source e → IsOpen e ⊎ Told command source e
 told command source (Text line column) h = inr (inl (line, (column, (h, refl))))
@@ -213,8 +230,13 @@ told command source WriteFault h = absurd h
 
 told_output : (command : Command) (source output : List ℕ) → IsOutput command source output → Told command source Done
 told_output Check source output h = inr (h.input, (h.spelled, inr (h.valid, refl)))
-told_output Stage source output h = inr (h.input, (h.spelled, inr (h.valid.0, inr (h.valid.1, inr (h.writes.by.looped, (h.writes.by.form, refl))))))
+told_output (Stage options) source output h = inr (h.input, (h.spelled, inr (h.valid.0, inr (h.valid.1, inr (h.writes.by.looped, (h.writes.by.form, refl))))))
 told_output Plain source output h = inr (h.input, (h.spelled, inr (h.valid.0, inr (h.valid.1, inr (h.writes.memory, (h.writes.read, inr (h.writes.within, inr (h.writes.ends, refl))))))))
+told_output (Regions options) source output h = absurd h.writes
+told_output (Run options) source output h = absurd h.writes
+told_output (Order options) source output h = absurd h.writes
+told_output (Both options) source output h = absurd h.writes
+told_output (Sample options) source output h = absurd h.writes
 
 -- the ending by the bytes of the source alone
 settle : Ending → Ending
@@ -297,7 +319,7 @@ pub check : TextLaws → ImageLaws → CheckIsComplete
 check texts laws source answer before now b input s v = complete texts laws Check source answer before now b (inr (input, (s, inr (v, refl))))
 
 pub stage : TextLaws → ImageLaws → StageIsComplete
-stage texts laws source answer before now b input s v p l f = complete texts laws Stage source answer before now b (inr (input, (s, inr (v, inr (p, inr (l, (f, refl)))))))
+stage texts laws options source answer before now b input s v p l f = complete texts laws (Stage options) source answer before now b (inr (input, (s, inr (v, inr (p, inr (l, (f, refl)))))))
 
 pub run : TextLaws → ImageLaws → PlainIsComplete
 run texts laws source answer before now b input memory h w e = complete texts laws Plain source answer before now b (told_has source input memory Done h (inr (w, inr (e, refl))))

@@ -12,6 +12,7 @@ use Rattle.affine_grammar.specs.Spelling.{Spells}
 use Rattle.source_parts.specs.Parts.{text_part, image_part}
 use Rattle.affine_driver.specs.declared.command.Command.{Command}
 use Rattle.affine_driver.specs.declared.command.Command.TheVariants.{Check, Stage, Plain}
+use Rattle.affine_driver.specs.declared.command.StageOptions.{StageOptions}
 use Rattle.affine_driver.specs.declared.ending.Ending.{Ending}
 use Rattle.affine_driver.specs.declared.ending.Ending.TheVariants.{Done, Words, ReadFault, TooLong, Text, Invalid, Image, Fault, Unbuilt, WriteFault, Memory, Turns}
 use Rattle.affine_driver.specs.Output.{IsOutput}
@@ -37,19 +38,19 @@ unread command source text WriteFault e h = h
 unread command source text (Turns count) e h = absurd h
 
 -- what is read and not staged is refused
-pub unstaged : (source text : List ℕ) (input : Module) (ending : Ending) → text ≡ text_part source → Spells text input → IsValid input → IsNotStaged input ending → Refuses Stage source ending
-unstaged source text input (Invalid line rule) e s v h = record { input = input; spelled = rw (sym e) s; broken = inr (tt, v, h.0, h.1) }
-unstaged source text input Unbuilt e s v h = record { stages = refl; input = input; spelled = rw (sym e) s; valid = (v, h.0); other = h.1 }
-unstaged source text input Memory e s v h = tt
-unstaged source text input Done e s v h = h
-unstaged source text input Words e s v h = h
-unstaged source text input ReadFault e s v h = h
-unstaged source text input TooLong e s v h = h
-unstaged source text input (Text line column) e s v h = absurd h
-unstaged source text input (Image line rule) e s v h = absurd h
-unstaged source text input (Fault kind) e s v h = absurd h
-unstaged source text input WriteFault e s v h = h
-unstaged source text input (Turns count) e s v h = absurd h
+pub unstaged : (options : StageOptions) (source text : List ℕ) (input : Module) (ending : Ending) → text ≡ text_part source → Spells text input → IsValid input → IsNotStaged input ending → Refuses (Stage options) source ending
+unstaged options source text input (Invalid line rule) e s v h = record { input = input; spelled = rw (sym e) s; broken = inr (tt, v, h.0, h.1) }
+unstaged options source text input Unbuilt e s v h = record { stages = tt; input = input; spelled = rw (sym e) s; valid = (v, h.0); other = h.1 }
+unstaged options source text input Memory e s v h = tt
+unstaged options source text input Done e s v h = h
+unstaged options source text input Words e s v h = h
+unstaged options source text input ReadFault e s v h = h
+unstaged options source text input TooLong e s v h = h
+unstaged options source text input (Text line column) e s v h = absurd h
+unstaged options source text input (Image line rule) e s v h = absurd h
+unstaged options source text input (Fault kind) e s v h = absurd h
+unstaged options source text input WriteFault e s v h = h
+unstaged options source text input (Turns count) e s v h = absurd h
 
 -- what is read and not run to its end is refused
 pub unrun : (source text behind : List ℕ) (input : Module) (ending : Ending) → text ≡ text_part source → behind ≡ image_part source → Spells text input → IsValid input → IsNotRun input behind ending → Refuses Plain source ending
@@ -84,8 +85,8 @@ unrun source text behind input WriteFault e i s v h = h
 pub checked : (source text output : List ℕ) (input : Module) → text ≡ text_part source → Spells text input → IsValid input → output ≡ spelling input → IsOutput Check source output
 checked source text output input e s v w = record { input = input; spelled = rw (sym e) s; valid = v; writes = w }
 
-pub staged : (source text output : List ℕ) (input : Module) → text ≡ text_part source → Spells text input → IsValid input → Stages input output → IsOutput Stage source output
-staged source text output input e s v w = record { input = input; spelled = rw (sym e) s; valid = (v, w.0); writes = w.1 }
+pub staged : (options : StageOptions) (source text output : List ℕ) (input : Module) → text ≡ text_part source → Spells text input → IsValid input → Stages input output → IsOutput (Stage options) source output
+staged options source text output input e s v w = record { input = input; spelled = rw (sym e) s; valid = (v, w.0); writes = w.1 }
 
 pub ran : (source text behind output : List ℕ) (input : Module) → text ≡ text_part source → behind ≡ image_part source → Spells text input → IsValid input → Runs input behind output → IsOutput Plain source output
 ran source text behind output input e i s v w = record { input = input; spelled = rw (sym e) s; valid = (v, w.0); writes = rw (sym i) w.1 }

@@ -12,6 +12,7 @@ use Rattle.copy_emit.specs.Template.{FirstLoop}
 use Rattle.first_path.specs.Form.{IsOfFirstForm}
 use Rattle.source_parts.specs.Parts.{text_part}
 use Rattle.affine_driver.specs.declared.command.Command.{Command}
+use Rattle.affine_driver.specs.declared.command.StageOptions.{StageOptions}
 use Rattle.affine_driver.specs.declared.command.Command.TheVariants.{Check, Stage, Plain}
 use Rattle.affine_driver.specs.declared.ending.Ending.{Ending}
 use Rattle.affine_driver.specs.declared.ending.Ending.TheVariants.{Done, Words, ReadFault, TooLong, Text, Invalid, Fault, Unbuilt, WriteFault, Memory, Turns}
@@ -54,7 +55,7 @@ CheckIsComplete =
 -- under `stage` a valid module of the first form that meets V13 is staged
 abbrev pub StageIsComplete : Type 0
 StageIsComplete =
-    (source : List ℕ) (answer : Ending) (before now : Option (List ℕ)) → Because Stage source answer before now
+    (options : StageOptions) (source : List ℕ) (answer : Ending) (before now : Option (List ℕ)) → Because (Stage options) source answer before now
     → (input : Module) → Spells (text_part source) input → IsValid input → plain_fault input ≡ None
     → (l : FirstLoop) → IsOfFirstForm input l → IsOpen answer ⊎ IsBuilt answer
 

@@ -5,3 +5,4 @@ pub mod Output
 pub mod Reading
 pub mod Refusals
 pub mod Spelled
+pub mod Table

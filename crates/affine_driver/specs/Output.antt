@@ -74,14 +74,20 @@ pub record IsPlainOutput (input : Module) (text output : List ℕ) : Type 0 wher
 -- `stage` don't look at the image
 abbrev pub Writes : Command → Module → List ℕ → List ℕ → Type 0
 Writes Check input text output = output ≡ spelling input
-Writes Stage input text output = IsStageOutput input output
+Writes (Stage options) input text output = IsStageOutput input output
 Writes Plain input text output = IsPlainOutput input text output
+Writes unbuilt input text output = ⊥
+
+-- the module meets V1 to V13
+abbrev pub IsPlainValid : Module → Type 0
+IsPlainValid input = IsValid input × (plain_fault input ≡ None)
 
 -- the module meets the rules of validity that the command asks for: V1 to V12, and to be staged or run V13
 abbrev pub Meets : Command → Module → Type 0
 Meets Check input = IsValid input
-Meets Stage input = IsValid input × (plain_fault input ≡ None)
-Meets Plain input = IsValid input × (plain_fault input ≡ None)
+Meets (Stage options) input = IsPlainValid input
+Meets Plain input = IsPlainValid input
+Meets unbuilt input = ⊥
 
 -- the output of a source under a command: that of the valid module which its text spells, and of its image
 pub record IsOutput (command : Command) (source output : List ℕ) : Type 0 where

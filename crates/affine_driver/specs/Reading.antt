@@ -74,8 +74,3 @@ pub record Answers (limit : ℕ) (command : Command) (ending : Ending) (given le
   pub over : (ending ≡ TooLong) ↔ (limit < length bytes)
   pub whole : ComesAfterReading ending → IsAtEnd left
   pub because : Because command bytes ending before now
-
--- where the words ask for a command, the call answers it
-abbrev pub AnswersWords : ℕ → Option Command → Ending → Option (List ℕ) → Option (List ℕ) → Option (List ℕ) → Option (List ℕ) → Type 0
-AnswersWords limit (Some command) ending given left before now = Answers limit command ending given left before now
-AnswersWords limit None ending given left before now = Unit {0}

@@ -17,15 +17,20 @@ use Rattle.affine_driver.specs.declared.command.Command.{Command}
 use Rattle.affine_driver.specs.declared.command.Command.TheVariants.{Check, Stage, Plain}
 use Rattle.affine_driver.specs.declared.ending.Ending.{Ending}
 use Rattle.affine_driver.specs.declared.ending.Ending.TheVariants.{Done, Words, ReadFault, TooLong, Text, Invalid, Image, Fault, Unbuilt, WriteFault, Memory, Turns}
-use Rattle.affine_driver.specs.Output.{work_limit, IsStageOutput, IsPlainOutput, Meets}
+use Rattle.affine_driver.specs.Output.{work_limit, IsStageOutput, IsPlainOutput, IsPlainValid}
 
 -- ---- A source under a command
 
 -- the command asks for V13: it stages the module or runs it directly
 abbrev pub AsksPlain : Command → Type 0
 AsksPlain Check = ⊥
-AsksPlain Stage = Unit {0}
+AsksPlain (Stage options) = Unit {0}
 AsksPlain Plain = Unit {0}
+AsksPlain unbuilt = ⊥
+
+abbrev pub IsStage : Command → Type 0
+IsStage (Stage options) = Unit {0}
+IsStage other = ⊥
 
 -- The module breaks a rule, first at this line: the first rule of V1 to V12, or, where it meets these and the command asks for
 -- it, V13.
@@ -40,10 +45,10 @@ pub record IsInvalid (command : Command) (source : List ℕ) (line rule : ℕ) :
 
 -- the valid module that the text spells isn't of the first form, so it isn't staged
 pub record IsUnbuilt (command : Command) (source : List ℕ) : Type 0 where
-  pub stages : command ≡ Stage
+  pub stages : IsStage command
   pub input : Module
   pub spelled : Spells (text_part source) input
-  pub valid : Meets Stage input
+  pub valid : IsPlainValid input
   pub other : (l : FirstLoop) → IsOfFirstForm input l → ⊥
 
 -- the image breaks a rule first at this line, for the valid module that is to be run
@@ -51,13 +56,13 @@ pub record IsMisread (command : Command) (source : List ℕ) (line rule : ℕ) :
   pub runs : command ≡ Plain
   pub input : Module
   pub spelled : Spells (text_part source) input
-  pub valid : Meets Plain input
+  pub valid : IsPlainValid input
   pub broken : image.IsFirstBroken (image_part source) input line rule
 
 -- the source has this valid module and this memory, which fits it
 pub record Has (source : List ℕ) (input : Module) (memory : ast.Image) : Type 0 where
   pub spelled : Spells (text_part source) input
-  pub valid : Meets Plain input
+  pub valid : IsPlainValid input
   pub read : image.Spells (image_part source) input memory
 
 -- the module that is to be run has this work, which passes the limit

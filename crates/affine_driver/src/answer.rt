@@ -2,6 +2,7 @@
 ghost use Rattle.std.specs.Prelude.{◌≡◌, ◌≤◌, length, MatchResult};
 ghost use Rattle.affine_ast.specs.Validity.{IsValid};
 ghost use Rattle.affine_grammar.specs.Spelling.{Spells};
+ghost use Rattle.affine_driver.specs.Command.{IsAllowed};
 ghost use Rattle.affine_driver.specs.Output.{IsOutput};
 ghost use Rattle.affine_driver.specs.Refusals.{Refuses, IsNotRead};
 
@@ -37,7 +38,8 @@ fn read(alloc: Global, text: &[u8]) -> Result<Verified, Ending>
 /// What the command writes of a source, or the ending that refuses it.
 #[tactic(auto, using(crate::proofs::Refusals::unread, crate::proofs::Refusals::unstaged, crate::proofs::Refusals::unrun, crate::proofs::Refusals::checked, crate::proofs::Refusals::staged, crate::proofs::Refusals::ran))]
 pub(crate) fn answer_of(alloc: Global, command: Command, source: &[u8]) -> Result<Vec<u8>, Ending>
-    requires { length source.now ≤ SOURCE_LIMIT }
+    requires allowed { IsAllowed command }
+    requires short { length source.now ≤ SOURCE_LIMIT }
     ensures { MatchResult result (λ output. IsOutput command source.now output.items) (λ ending. Refuses command source.now ending) }
 {
     let parts = split(source);
@@ -50,7 +52,7 @@ pub(crate) fn answer_of(alloc: Global, command: Command, source: &[u8]) -> Resul
             Ok(output) => Ok(output),
             Err(AllocError) => Err(Ending::Memory),
         },
-        Command::Stage => match staged(alloc, &verified) {
+        Command::Stage(_) => match staged(alloc, &verified) {
             Ok(output) => Ok(output),
             Err(ending) => Err(ending),
         },
@@ -58,5 +60,10 @@ pub(crate) fn answer_of(alloc: Global, command: Command, source: &[u8]) -> Resul
             Ok(output) => Ok(output),
             Err(ending) => Err(ending),
         },
+        Command::Regions(_) => unreachable!(),
+        Command::Run(_) => unreachable!(),
+        Command::Order(_) => unreachable!(),
+        Command::Both(_) => unreachable!(),
+        Command::Sample(_) => unreachable!(),
     }
 }

@@ -15,9 +15,12 @@ mod plain;
 mod report;
 mod spelled;
 mod stage;
+mod table;
 mod top;
 
-pub use command::Command;
+pub use command::{
+    BothOptions, Command, OrderOptions, RegionsOptions, RunOptions, SampleOptions, StageOptions,
+};
 pub use ending::Ending;
 pub use laws::endings_are_exact;
 pub use limits::{SOURCE_LIMIT, WORK_LIMIT};

@@ -11,6 +11,14 @@ use Rattle.affine_expr.specs.Spread.{both_fixed, one_fixed}
 use Rattle.affine_expr.specs.Forms.{Form, LocalForm}
 use Rattle.affine_expr.specs.Linear.{◌>>=◌, join_forms, number_form, over}
 
+-- what a function gives for each of a list, where it refuses none
+abbrev pub try_each : {A B : Type 0} → (A → Result B LinearFault) → List A → Result (List B) LinearFault
+try_each f [] = Ok []
+try_each f (x ∷ xs) = do
+  y ← f x
+  ys ← try_each f xs
+  Ok (y ∷ ys)
+
 -- several forms, and the locals that stand after them
 pub record Formed : Type 0 where
   pub forms : List Form

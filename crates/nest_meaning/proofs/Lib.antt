@@ -1,4 +1,3 @@
-pub mod Registers
-pub mod Memories
+pub mod Settled
 pub mod Runs
 pub mod Modules

@@ -5,28 +5,28 @@ ghost use Rattle.direct_meaning.specs.Direct.{folded, direct_step};
 ghost use Rattle.direct_meaning.specs.Memory.{Fits};
 ghost use Rattle.direct_meaning.specs.Work.{work};
 ghost use Rattle.run_laws.specs.CanRun.{CanRun};
-ghost use Rattle.nest_meaning.specs.Held.{state_at, IsMachine, Same};
+ghost use Rattle.nest_meaning.specs.Held.{state_at, Same};
 ghost use Rattle.nest_meaning.specs.Takes.{Ends, RunsPlain};
 
-use crate::image::{copies, flat, refill};
 use crate::machine::Machine;
 use affine_ast::{Image, Verified};
 use bus_model::Verdict;
 use nest_walk::Walk;
+use run_parts::{Registers, copies, flat, refill};
 use sqlite_items::Items;
 use std::alloc::{AllocError, Global};
 use walk_program::make;
 
 /// Takes the actions that are left, up to the first fault.
 fn run(walk: &mut Walk<'_>, machine: &mut Machine<'_>) -> Verdict
-    requires machine { IsMachine machine.old }
-    requires names { machine.old.names.now ≡ walk.old.names }
+    requires names { machine.old.registers.names ≡ walk.old.names }
     requires runs { CanRun walk.old.left (state_at machine.old) }
     ensures ends { Ends result (folded direct_step walk.old.left (state_at machine.old)) (state_at machine.new) }
     ensures same { Same machine.old machine.new }
 {
     while let Some(action) = walk.next() {
-        if let Err(kind) = machine.take(action, walk.subscripts()) {
+        let effect = machine.registers.settle(action, walk.subscripts());
+        if let Err(kind) = machine.take(effect) {
             return Verdict::Fault(kind);
         }
     }
@@ -51,7 +51,8 @@ pub fn run_plain(alloc: Global, module: &Verified, image: &mut Image) -> Result<
     let program = make(alloc, module)?;
     let slow = flat(alloc, image.memrefs.as_slice())?;
     let mut memrefs = copies(alloc, image.memrefs.as_slice())?;
-    let mut machine = Machine::new(alloc, program.names.as_slice(), slow)?;
+    let registers = Registers::new(alloc, program.names.as_slice())?;
+    let mut machine = Machine { registers, slow };
     let mut walk = Walk::new(alloc, &program, image.symbols.as_slice())?;
     let verdict = run(&mut walk, &mut machine);
     refill(&mut memrefs, machine.slow.as_slice());

@@ -1,14 +1,14 @@
 // The outstanding transfers, and which of them wait for an engine.
-ghost use Rattle.std.specs.Prelude.{◌≡◌, ℕ, ◌<◌, ◌≤◌, ◌^◌, ◌∷◌, [], ◌++◌, length, vec_capacity, slice_get, None, nat_eq, nat_lt, not};
+ghost use Rattle.std.specs.Prelude.{◌≡◌, ℕ, ◌<◌, ◌≤◌, ◌^◌, ◌∷◌, [], ◌++◌, length, vec_capacity, slice_get, MatchOption, Some, None, true, nat_eq, nat_lt, not};
 ghost use Rattle.std.specs.List.{filter};
 ghost use Rattle.std.specs.Bool.{MatchBool};
-ghost use Rattle.bus_model.specs.Engines.{flight_of, with_flight, with_engine};
-ghost use Rattle.order_meaning.specs.Machine.{held_by, sent};
+ghost use Rattle.bus_model.specs.Engines.{Flight, flight_of, with_flight, with_engine};
+ghost use Rattle.order_meaning.specs.Machine.{held_by, sent, is_finished, without_flight};
 ghost use Rattle.order_meaning.specs.Listed.{Has, IsAscending, engine_steps, steps_from};
-ghost use Rattle.order_engines.specs.Flying.{flights_of, FliesWithin, MayTake, MayFinish, MayMove, Changed, IsMoved};
+ghost use Rattle.order_engines.specs.Flying.{flight, flights_of, FliesWithin, MayTake, MayFinish, MayMove, Changed, IsMoved};
 ghost use Rattle.order_engines.specs.Waiting.{IsFlights, IsPut, IsSame};
 
-use crate::engines::{finish, held_by, move_next, take};
+use crate::engines::{finish, held_by, move_next, place_of, take};
 use crate::flying::Flying;
 use bus_model::{Step, Transfer};
 
@@ -107,8 +107,8 @@ impl Flights {
         None
     }
 
-    /// An idle engine takes a tag's transfer, of which nothing is moved and that no engine holds. False, with nothing changed,
-    /// where it may not.
+    /// An idle engine takes a tag's transfer, of which nothing is moved and that no engine holds. False, with nothing
+    /// changed, where it may not.
     pub fn take(&mut self, engines: u32, engine: u32, tag: u32) -> bool
         requires { (slow : ℕ) × IsFlights slow self.old }
         ensures takes { MatchBool result
@@ -134,7 +134,8 @@ impl Flights {
         finish(self.flying.as_mut_slice(), engines, engine)
     }
 
-    /// The engine of a transfer moves its next element. False, with nothing changed, where none is left or it holds no transfer.
+    /// The engine of a transfer moves its next element. False, with nothing changed, where none is left or it holds no
+    /// transfer.
     pub fn move_next(&mut self, slow: &mut [i64], engines: u32, engine: u32) -> bool
         requires { IsFlights (length slow.old) self.old }
         ensures moves { MatchBool result
@@ -145,7 +146,8 @@ impl Flights {
         move_next(slow, self.flying.as_mut_slice(), engines, engine)
     }
 
-    /// A transfer is outstanding from here on, behind the others, with its half's cells. Nothing of it is moved, and no engine holds it.
+    /// A transfer is outstanding from here on, behind the others, with its half's cells. Nothing of it is moved, and no
+    /// engine holds it.
     pub fn start(&mut self, transfer: Transfer, cells: Vec<i64>)
         requires kept { (slow : ℕ) × IsFlights slow self.old }
         requires idle { flight_of (flights_of self.old.flying.items) transfer.tag ≡ None }
@@ -163,5 +165,23 @@ impl Flights {
             moved: 0,
             engine: None,
         });
+    }
+
+    /// Takes the transfer of a tag off, finished, with its half's cells. None, with nothing changed, where the tag
+    /// isn't started.
+    pub fn collect(&mut self, tag: u32) -> Option<Flying>
+        requires kept { (slow : ℕ) × IsFlights slow self.old }
+        requires finished { (f : Flight) → flight_of (flights_of self.old.flying.items) tag ≡ Some f → is_finished f ≡ true }
+        ensures collected { MatchOption result
+            ((flight_of (flights_of self.old.flying.items) tag ≡ None) × IsSame self.old self.new)
+            (λ f. (flight_of (flights_of self.old.flying.items) tag ≡ Some (flight f)) × (flights_of self.new.flying.items ≡ without_flight tag (flights_of self.old.flying.items))) }
+        ensures kept { (slow : ℕ) → IsFlights slow self.old → IsFlights slow self.new }
+        ensures room { vec_capacity self.new.flying ≡ vec_capacity self.old.flying }
+        ensures waiting { self.new.waiting ≡ self.old.waiting }
+    {
+        let Some(place) = place_of(self.flying.as_slice(), tag) else {
+            return None;
+        };
+        Some(self.flying.remove(place))
     }
 }

@@ -17,7 +17,7 @@ pub record CellsFit (widths : List ℕ) (slow : List ℤ) : Type 0 where
 
 -- ---- the number of an element is below the product of the sizes
 
-within_below : (z : ℤ) (n k : ℕ) → within z n ≡ Some k → k < n
+pub within_below : (z : ℤ) (n k : ℕ) → within z n ≡ Some k → k < n
 within_below (pos j) n k h = by (nat_lt j n) refl h
   where
     by : (t : Bool) → nat_lt j n ≡ t → (if t then Some j else None) ≡ Some k → k < n
@@ -81,7 +81,7 @@ place_fits widths (Some (TagMemref first)) ty zs h = absurd h
 
 -- ---- a cell's new value
 
-by_places : {A : Type 0} (a b : ℕ) → (a ≡ b → A) → ((a ≡ b → ⊥) → A) → A
+pub by_places : {A : Type 0} (a b : ℕ) → (a ≡ b → A) → ((a ≡ b → ⊥) → A) → A
 by_places {A = A} a b f g = by (nat_eq a b) refl
   where
     by : (t : Bool) → nat_eq a b ≡ t → A

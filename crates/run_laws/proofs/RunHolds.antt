@@ -60,6 +60,7 @@ home_in : (widths : List ℕ) (slow : List ℤ) (home : Option Home) (ty : Memre
 home_in widths slow None ty subscripts c h k e = absurd h
 home_in widths slow (Some (SlowMemref number first)) ty subscripts c h k e = record {
   places = subst (λ n. first + product ty.sizes ≤ n) (sym c.long) h.places;
+  places_fit = k.stands.places_fit;
   sizes_positive = k.sizes;
   rank = k.stands.rank;
   count = e;

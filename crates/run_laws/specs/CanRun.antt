@@ -24,9 +24,11 @@ PlaceIn cells (Slow place) = place < cells
 PlaceIn cells (Fast number half cell) = ⊥
 PlaceIn cells Outside = Unit {0}
 
--- a slow memref that is accessed by values: its elements lie in the slow memory, and the subscripts are as many as its rank
+-- a slow memref that is accessed by values: its elements lie in the slow memory, within the limit of a module, and the subscripts are
+-- as many as its rank
 pub record RawIn (cells first : ℕ) (sizes : List ℕ) (subscripts : List Operand) : Type 0 where
   pub places : first + product sizes ≤ cells
+  pub places_fit : first + product sizes ≤ 1048576
   pub sizes_positive : All (λ n. 1 ≤ n) sizes
   pub rank : length sizes ≤ 6
   pub count : length subscripts ≡ length sizes

@@ -1,0 +1,14 @@
+pub mod Numbers
+pub mod Dashes
+pub mod Rules
+pub mod Turns
+pub mod Runs
+pub mod Faults
+pub mod Found
+pub mod Built
+pub mod Flags
+pub mod Spelled
+pub mod Known
+pub mod Taken
+pub mod Chosen
+pub mod Fit

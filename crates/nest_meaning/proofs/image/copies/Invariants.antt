@@ -1,5 +1,0 @@
-use Rattle.std.proofs.Common.{◌≡◌, take}
-use Rattle.nest_meaning.proofs.image.copies.Given as goal
-
-abbrev pub invariant-loop-cells : goal.invariant-loop-cells
-invariant-loop-cells l = l.copies.items ≡ take l.cells-index l.memrefs

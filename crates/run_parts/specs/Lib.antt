@@ -1,0 +1,3 @@
+pub mod Registered
+pub mod Settled
+pub mod Effects
