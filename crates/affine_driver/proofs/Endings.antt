@@ -12,14 +12,12 @@ use Rattle.bus_model.specs.declared.step.Verdict.{Verdict}
 use Rattle.bus_model.specs.declared.step.Verdict.TheVariants as verdict
 use Rattle.direct_meaning.specs.Direct.{plain, verdict_of, state_of}
 use Rattle.direct_meaning.specs.Work.{work}
-use Rattle.affine_ast.specs.declared.stmt.Stmt.{Stmt}
-use Rattle.affine_ast.specs.declared.stmt.What.{What, For}
-use Rattle.affine_ast.specs.declared.types.Bound.TheVariants.{Int}
 use Rattle.copy_emit.specs.FirstPlan.{Planned, first_plan, first_staged}
 use Rattle.copy_emit.specs.Law.{staged}
 use Rattle.copy_emit.specs.Template.{FirstLoop}
 use Rattle.first_path.specs.declared.place.Placement.{Placement}
 use Rattle.first_path.specs.Plan.{planned_of}
+use Rattle.first_path.proofs.Forms.{one_loop}
 use Rattle.first_path.specs.Form.{IsOfFirstForm}
 use Rattle.mem_image.specs.Images as image
 use Rattle.run_laws.specs.StaysFitting.{with_slow}
@@ -356,19 +354,6 @@ one_plain texts laws source output other h k =
     one_run laws k.input (image_part source) output other
     (subst (λ m. IsPlainOutput m (image_part source) output) (texts.one_module (text_part source) h.input k.input h.spelled k.spelled) h.writes) k.writes
 
--- the loop of a module of the first form
-loop_of : List Stmt → FirstLoop → FirstLoop
-loop_of (s ∷ t ∷ []) d = by_what s.what
-  where
-    by_what : What → FirstLoop
-    by_what (For var (Int low) (Int high) step body) = record { line = s.line; var = var; low = low; high = high; body = body; return_line = t.line }
-    by_what other = d
-loop_of other d = d
-
-one_loop : (m : Module) (l k : FirstLoop) → IsOfFirstForm m l → IsOfFirstForm m k → l ≡ k
-unfolding loop_of
-one_loop m l k f g = ap (λ b. loop_of b l) (sym f.body ∙ g.body)
-
 placed_of : Planned → Placement
 placed_of p = record { memref = p.memref; size = p.size; place = p.place; extent = p.extent; writes = p.writes }
 
@@ -379,7 +364,7 @@ placements_are (p ∷ ps) = ap (λ l. p ∷ l) (placements_are ps)
 
 one_staged : (input : Module) (output other : List ℕ) → IsStageOutput input output → IsStageOutput input other → output ≡ other
 one_staged input output other h k =
-    let l : h.by.looped ≡ k.by.looped = one_loop input h.by.looped k.by.looped h.by.form k.by.form in
+    let l : h.by.looped ≡ k.by.looped = sym (one_loop input.body h.by.looped k.by.looped h.by.form.body k.by.form.body) in
     let line : h.staged.line ≡ k.staged.line = h.by.line ∙ ap (λ x. x.line) l ∙ sym k.by.line in
     let placed : h.staged.placements ≡ k.staged.placements =
     sym (placements_are h.staged.placements) ∙ ap (map placed_of) (h.by.placements ∙ ap first_plan l ∙ sym k.by.placements) ∙ placements_are k.staged.placements in
