@@ -11,6 +11,7 @@ ghost use Rattle.fast_halves.specs.Shape.{here, away, shape, shapes, IsHere, IsA
 use std::alloc::{AllocError, Global};
 use std::marker::Model;
 use std::mem;
+use thiserror::Error;
 
 #[derive(Drop)]
 enum Half {
@@ -51,7 +52,8 @@ impl Half {
 }
 
 /// The half is away with this tag.
-#[derive(Debug, Drop)]
+#[derive(Debug, Drop, Error)]
+#[error("the half is away with tag {tag}")]
 pub struct Away {
     pub tag: u32,
 }

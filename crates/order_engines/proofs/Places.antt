@@ -1,11 +1,12 @@
 -- The first of the outstanding transfers with an engine, or with a tag.
 use Rattle.std.proofs.Common.{◌≡◌, ◌≢◌, ⊎_elim, ℕ, zero, suc, ◌+◌, ◌<◌, Bool, true, false, List, [], ◌∷◌, sym, refl, ap, ◌∙◌, subst, arith, eq-eqb, ne_eqb, length, get_or, set}
 use Rattle.std.specs.Prelude.{Option, Some, None, nat_eq, slice_get, is_some, MatchOption, if◌then◌else◌}
+use Rattle.std.specs.List.{remove}
 use Rattle.std.specs.Option.{option_eq}
 use lib.Dec.{eqb}
 use native.Mathlib.Decide.{ℕ_discrete}
 use Rattle.bus_model.specs.Engines.{Flight, flight_of, with_flight}
-use Rattle.order_meaning.specs.Machine.{transfers_of, is_engine, held_by}
+use Rattle.order_meaning.specs.Machine.{transfers_of, is_engine, held_by, without_flight}
 use Rattle.prompt_meaning.specs.Device.{record_of}
 use Rattle.order_meaning.proofs.Flights.{same_some, none_some, both_ways, if_true, if_false, which}
 use Rattle.order_meaning.proofs.Sides.{same_number}
@@ -84,8 +85,16 @@ change_at (x ∷ fs) t (suc k) f g none at is =
     if_false (nat_eq x.transfer.tag t) (g (flight x) ∷ flights_of fs) (flight x ∷ with_flight (flights_of fs) t g) (ne_eqb x.transfer.tag t (none 0 x (omega arith) refl))
     ∙ ap (λ l. flight x ∷ l) (change_at fs t k f g (λ j h l q. none (suc j) h (omega (arith, l)) q) at is)
 
+-- and it is the one that is taken off
+without_at : (fs : List Flying) (t k : ℕ) (f : Flying) → NoneTagged fs t k → slice_get fs k ≡ Some f → f.transfer.tag ≡ t → without_flight t (flights_of fs) ≡ flights_of (remove fs k)
+without_at [] t k f none at is = absurd (cc)
+without_at (x ∷ fs) t zero f none at is = if_true (nat_eq x.transfer.tag t) (flights_of fs) (flight x ∷ without_flight t (flights_of fs)) (eq-eqb x.transfer.tag t (ap (λ (z : Flying). z.transfer.tag) (same_some x f at) ∙ is))
+without_at (x ∷ fs) t (suc k) f none at is =
+    if_false (nat_eq x.transfer.tag t) (flights_of fs) (flight x ∷ without_flight t (flights_of fs)) (ne_eqb x.transfer.tag t (none 0 x (omega arith) refl))
+    ∙ ap (λ l. flight x ∷ l) (without_at fs t k f (λ j h l q. none (suc j) h (omega (arith, l)) q) at is)
+
 pub place_at : (fs : List Flying) (t k : ℕ) (f : Flying) → NoneTagged fs t k → slice_get fs k ≡ Some f → f.transfer.tag ≡ t → IsPlaceOf fs t k f
-place_at fs t k f none at is = record { at = at; found = tagged_at fs t k f none at is; change = λ g. change_at fs t k f g none at is }
+place_at fs t k f none at is = record { at = at; found = tagged_at fs t k f none at is; change = λ g. change_at fs t k f g none at is; without = without_at fs t k f none at is }
 
 pub value_at : {X : Type 0} (xs : List X) (k : ℕ) (x d : X) → slice_get xs k ≡ Some x → get_or xs k d ≡ x
 value_at [] k x d at = absurd (cc)

@@ -1,8 +1,9 @@
 -- What an outstanding transfer is seen as.
 use Rattle.std.specs.Prelude.{◌≡◌, ℕ, ℤ, ◌+◌, ◌^◌, ◌<◌, ◌≤◌, List, length, map, Some, None, slice_get, slice_set, if◌then◌else◌}
+use Rattle.std.specs.List.{remove}
 use Rattle.bus_model.specs.Places.{slow_place}
 use Rattle.bus_model.specs.Engines.{Flight, flight_of, with_flight, next_in, next_out, slow_out}
-use Rattle.order_meaning.specs.Machine.{transfers_of, held_by, CanBeTaken, HasMore, HasAll}
+use Rattle.order_meaning.specs.Machine.{transfers_of, without_flight, held_by, CanBeTaken, HasMore, HasAll}
 use Rattle.order_meaning.specs.Agree.{TagsApart}
 use Rattle.order_engines.specs.declared.flying.Flying.{Flying}
 
@@ -12,11 +13,12 @@ flight f = record { transfer = f.transfer; cells = f.cells.items; moved = f.move
 abbrev pub flights_of : List Flying → List Flight
 flights_of fs = map flight fs
 
--- the place of a tag's transfer: it is found there, and changed there
+-- the place of a tag's transfer: it is found there, changed there, and taken off there
 pub record IsPlaceOf (fs : List Flying) (tag k : ℕ) (f : Flying) : Type 0 where
   pub at : slice_get fs k ≡ Some f
   pub found : flight_of (flights_of fs) tag ≡ Some (flight f)
   pub change : (g : Flight → Flight) → with_flight (flights_of fs) tag g ≡ slice_set (flights_of fs) k (g (flight f))
+  pub without : without_flight tag (flights_of fs) ≡ flights_of (remove fs k)
 
 -- what it takes that an engine takes a tag's transfer
 abbrev pub MayTake : ℕ → ℕ → ℕ → List Flight → Type 0

@@ -1,14 +1,14 @@
 // The outstanding transfers, and which of them wait for an engine.
-ghost use Rattle.std.specs.Prelude.{◌≡◌, ℕ, ◌<◌, ◌≤◌, ◌^◌, ◌∷◌, [], ◌++◌, length, vec_capacity, slice_get, None, nat_eq, nat_lt, not};
+ghost use Rattle.std.specs.Prelude.{◌≡◌, ℕ, ◌<◌, ◌≤◌, ◌^◌, ◌∷◌, [], ◌++◌, length, vec_capacity, slice_get, MatchOption, Some, None, true, nat_eq, nat_lt, not};
 ghost use Rattle.std.specs.List.{filter};
 ghost use Rattle.std.specs.Bool.{MatchBool};
-ghost use Rattle.bus_model.specs.Engines.{flight_of, with_flight, with_engine};
-ghost use Rattle.order_meaning.specs.Machine.{held_by, sent};
+ghost use Rattle.bus_model.specs.Engines.{Flight, flight_of, with_flight, with_engine};
+ghost use Rattle.order_meaning.specs.Machine.{held_by, sent, is_finished, without_flight};
 ghost use Rattle.order_meaning.specs.Listed.{Has, IsAscending, engine_steps, steps_from};
-ghost use Rattle.order_engines.specs.Flying.{flights_of, FliesWithin, MayTake, MayFinish, MayMove, Changed, IsMoved};
+ghost use Rattle.order_engines.specs.Flying.{flight, flights_of, FliesWithin, MayTake, MayFinish, MayMove, Changed, IsMoved};
 ghost use Rattle.order_engines.specs.Waiting.{IsFlights, IsPut, IsSame};
 
-use crate::engines::{finish, held_by, move_next, take};
+use crate::engines::{finish, held_by, move_next, place_of, take};
 use crate::flying::Flying;
 use bus_model::{Step, Transfer};
 
@@ -163,5 +163,22 @@ impl Flights {
             moved: 0,
             engine: None,
         });
+    }
+
+    /// Takes the transfer of a tag off, finished, with its half's cells. None, with nothing changed, where the tag isn't started.
+    pub fn collect(&mut self, tag: u32) -> Option<Flying>
+        requires kept { (slow : ℕ) × IsFlights slow self.old }
+        requires finished { (f : Flight) → flight_of (flights_of self.old.flying.items) tag ≡ Some f → is_finished f ≡ true }
+        ensures collected { MatchOption result
+            ((flight_of (flights_of self.old.flying.items) tag ≡ None) × IsSame self.old self.new)
+            (λ f. (flight_of (flights_of self.old.flying.items) tag ≡ Some (flight f)) × (flights_of self.new.flying.items ≡ without_flight tag (flights_of self.old.flying.items))) }
+        ensures kept { (slow : ℕ) → IsFlights slow self.old → IsFlights slow self.new }
+        ensures room { vec_capacity self.new.flying ≡ vec_capacity self.old.flying }
+        ensures waiting { self.new.waiting ≡ self.old.waiting }
+    {
+        let Some(place) = place_of(self.flying.as_slice(), tag) else {
+            return None;
+        };
+        Some(self.flying.remove(place))
     }
 }

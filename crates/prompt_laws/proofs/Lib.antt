@@ -5,3 +5,4 @@ pub mod Starts
 pub mod Statements
 pub mod Costs
 pub mod Conclusions
+pub mod Direct

@@ -19,6 +19,7 @@ use crate::view::{BusRule, Layout, Parcel, RawSeat, View, Words};
 use atomic_table::{Closed, Split, Table};
 use std::alloc::{AllocError, Global};
 use std::marker::Model;
+use thiserror::Error;
 
 /// The slow words, the tags' words and their slots. A contract sees which bus it is, and how many slow words and tags it has.
 #[derive(Drop)]
@@ -41,13 +42,15 @@ impl Model for Bus {
 }
 
 /// The tag's word, which this call's exchange met, wasn't 3 for done.
-#[derive(Debug, Drop)]
+#[derive(Debug, Drop, Error)]
+#[error("not done yet: the tag's word was {word}")]
 pub struct NotYet {
     pub word: u64,
 }
 
 /// The tag's word, which this call's exchange met, wasn't 1 for ready.
-#[derive(Debug, Drop)]
+#[derive(Debug, Drop, Error)]
+#[error("not ready: the tag's word was {word}")]
 pub struct NotReady {
     pub word: u64,
 }
