@@ -28,7 +28,7 @@ use Rattle.affine_rules.specs.Scoped.{is_key}
 use Rattle.module_work.specs.declared.ranges.Before.{Before}
 use Rattle.module_work.specs.Table.{range_or_zero, ranges_of, put_back}
 
-cases : {P : Type 0} (b : Bool) → (b ≡ true → P) → (b ≡ false → P) → P
+pub cases : {P : Type 0} (b : Bool) → (b ≡ true → P) → (b ≡ false → P) → P
 cases true y n = y refl
 cases false y n = n refl
 
@@ -54,8 +54,8 @@ key_of_one n m k h =
     let two = and_parts (bytes_eq n.text k.text.now) (beq n.made k.made) h in
     key_of_name n m k (sym ((bytes_eq-Decides n.text k.text.now).0 two.0)) (sym (beq-true n.made k.made two.1)) ∙ same_name-sym m n
 
-module _ (eq : Key → Key → Bool) (key : Key) (n : Name) (t : key.text.now ≡ n.text) (d : key.made ≡ n.made) (is : (j : Key) → eq key j ≡ is_key n j) (v : Interval) (m : Name) where
-  found_here : (k : Key) (es : List (Key × Interval)) → is_key m k ≡ same_name n m → lookup (is_key m) ((k, v) ∷ es) ≡ (if same_name n m then Some v else lookup (is_key m) es)
+module _ (V : Type 0) (eq : Key → Key → Bool) (key : Key) (n : Name) (t : key.text.now ≡ n.text) (d : key.made ≡ n.made) (is : (j : Key) → eq key j ≡ is_key n j) (v : V) (m : Name) where
+  found_here : (k : Key) (es : List (Key × V)) → is_key m k ≡ same_name n m → lookup (is_key m) ((k, v) ∷ es) ≡ (if same_name n m then Some v else lookup (is_key m) es)
   found_here k es h = cases (same_name n m)
       (λ s. lookup_head (is_key m) (k, v) es (h ∙ s) ∙ sym (ap (λ b. if b then Some v else lookup (is_key m) es) s))
       (λ s. lookup_tail (is_key m) (k, v) es (h ∙ s) ∙ sym (ap (λ b. if b then Some v else lookup (is_key m) es) s))
@@ -67,7 +67,7 @@ module _ (eq : Key → Key → Bool) (key : Key) (n : Name) (t : key.text.now �
       differ z = cc
 
   -- what a table finds with an entry more
-  inserted : (es : List (Key × Interval)) → lookup (is_key m) (insert_entry eq es key v) ≡ (if same_name n m then Some v else lookup (is_key m) es)
+  pub inserted : (es : List (Key × V)) → lookup (is_key m) (insert_entry eq es key v) ≡ (if same_name n m then Some v else lookup (is_key m) es)
   inserted [] = found_here key [] (key_of_name n m key t d ∙ same_name-sym m n)
   inserted (e ∷ es) = cases (eq key e.0)
       (λ s. ap (λ b. lookup (is_key m) (if b then (e.0, v) ∷ es else e ∷ insert_entry eq es key v)) s
@@ -82,7 +82,7 @@ module _ (eq : Key → Key → Bool) (key : Key) (n : Name) (t : key.text.now �
 pub ranges_set : (eq : Key → Key → Bool) (key : Key) (n : Name) → key.text.now ≡ n.text → key.made ≡ n.made → ((j : Key) → eq key j ≡ (bytes_eq key.text.now j.text.now && beq key.made j.made)) → (v : Interval) (es fs : List (Key × Interval)) → fs ≡ insert_entry eq es key v
     → ranges_of fs ≡ put (ranges_of es) n (range_at v)
 unfolding ranges_of
-ranges_set eq key n t d is v es fs h = fun_ext (λ m. ap (λ xs. range_or_zero (lookup (is_key m) xs)) h ∙ ap range_or_zero (inserted eq key n t d (λ j. is j ∙ (λ i. bytes_eq (t i) j.text.now && beq (d i) j.made)) v m es)
+ranges_set eq key n t d is v es fs h = fun_ext (λ m. ap (λ xs. range_or_zero (lookup (is_key m) xs)) h ∙ ap range_or_zero (inserted Interval eq key n t d (λ j. is j ∙ (λ i. bytes_eq (t i) j.text.now && beq (d i) j.made)) v m es)
     ∙ cases (same_name n m)
     (λ s. ap (λ b. range_or_zero (if b then Some v else lookup (is_key m) es)) s ∙ sym (put-same (ranges_of es) n (range_at v) m s))
     (λ s. ap (λ b. range_or_zero (if b then Some v else lookup (is_key m) es)) s ∙ sym (put-other (ranges_of es) n (range_at v) m s)))

@@ -28,7 +28,7 @@ fn results_of<'a>(
 
 /// The least turn that a lower bound allows.
 #[tactic(auto, unfolding(affine_ast::specs::Intervals::first_turn))]
-pub(crate) fn first_turn<'a>(
+pub fn first_turn<'a>(
     alloc: Global,
     table: &Ranges<'a>,
     bound: &'a Bound,
@@ -48,11 +48,7 @@ pub(crate) fn first_turn<'a>(
 
 /// The last end that an upper bound allows.
 #[tactic(auto, unfolding(affine_ast::specs::Intervals::last_end))]
-pub(crate) fn last_end<'a>(
-    alloc: Global,
-    table: &Ranges<'a>,
-    bound: &'a Bound,
-) -> Result<i64, AllocError>
+pub fn last_end<'a>(alloc: Global, table: &Ranges<'a>, bound: &'a Bound) -> Result<i64, AllocError>
     requires { WorkableBound (ranges_of table.now.entries) bound.now }
     ensures { IfOk result (λ end. end ≡ last_end (ranges_of table.now.entries) bound.now) }
 {
@@ -67,7 +63,7 @@ pub(crate) fn last_end<'a>(
 }
 
 /// The interval of the result of `affine.apply`, `min` or `max`.
-pub(crate) fn picked<'a>(
+pub fn picked<'a>(
     alloc: Global,
     table: &Ranges<'a>,
     pick: Pick,

@@ -5,10 +5,10 @@
 //! crate stands on the intervals of `affine_verify`, the trees of `affine_ast` and the laws of valid modules.
 #![tactic(auto)]
 
-mod bounds;
+pub mod bounds;
 mod count;
-mod ranges;
+pub mod ranges;
 mod statements;
 mod total;
 
-pub use total::work;
+pub use total::{range_or, work};

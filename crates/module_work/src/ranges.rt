@@ -13,17 +13,17 @@ use name_hash::NameHashing;
 use std::alloc::{AllocError, Global};
 
 /// The intervals of names; what isn't in the table is the number 0 alone.
-pub(crate) type Ranges<'a> = IndexMap<Key<'a>, Interval, NameHashing>;
+pub type Ranges<'a> = IndexMap<Key<'a>, Interval, NameHashing>;
 
 /// The interval of a name before it was set.
 #[derive(Clone, Copy)]
-pub(crate) struct Before<'a> {
-    pub(crate) name: &'a Name,
-    pub(crate) interval: Interval,
+pub struct Before<'a> {
+    pub name: &'a Name,
+    pub interval: Interval,
 }
 
 /// The interval that holds one number alone.
-pub(crate) fn only(value: i64) -> Interval
+pub fn only(value: i64) -> Interval
     ensures { range_at result ≡ only value }
 {
     Interval {
@@ -32,7 +32,8 @@ pub(crate) fn only(value: i64) -> Interval
     }
 }
 
-fn key_of(name: &Name) -> Key<'_>
+/// The key of a name.
+pub fn key_of(name: &Name) -> Key<'_>
     ensures text { result.text.now ≡ name.now.text }
     ensures made { result.made ≡ name.now.made }
 {
@@ -43,7 +44,7 @@ fn key_of(name: &Name) -> Key<'_>
 }
 
 /// The interval of a name.
-pub(crate) fn range_of<'a>(ranges: &Ranges<'a>, name: &'a Name) -> Interval
+pub fn range_of<'a>(ranges: &Ranges<'a>, name: &'a Name) -> Interval
     ensures { range_at result ≡ ranges_of ranges.now.entries name.now }
 {
     match ranges.get(&key_of(name)) {
@@ -53,7 +54,7 @@ pub(crate) fn range_of<'a>(ranges: &Ranges<'a>, name: &'a Name) -> Interval
 }
 
 /// The intervals of names, in order.
-pub(crate) fn ranges_of_all<'a>(
+pub fn ranges_of_all<'a>(
     alloc: Global,
     table: &Ranges<'a>,
     names: &'a [Name],
@@ -68,7 +69,7 @@ pub(crate) fn ranges_of_all<'a>(
 }
 
 /// Gives a name an interval.
-pub(crate) fn set<'a>(
+pub fn set<'a>(
     ranges: &mut Ranges<'a>,
     name: &'a Name,
     interval: Interval,
@@ -80,7 +81,7 @@ pub(crate) fn set<'a>(
 }
 
 /// Gives a name an interval, and keeps the one that it had.
-pub(crate) fn define<'a>(
+pub fn define<'a>(
     ranges: &mut Ranges<'a>,
     before: &mut Vec<Before<'a>>,
     name: &'a Name,
@@ -97,10 +98,7 @@ pub(crate) fn define<'a>(
 }
 
 /// Gives the names the intervals that they had, the last one first.
-pub(crate) fn restore<'a>(
-    ranges: &mut Ranges<'a>,
-    mut before: Vec<Before<'a>>,
-) -> Result<(), AllocError>
+pub fn restore<'a>(ranges: &mut Ranges<'a>, mut before: Vec<Before<'a>>) -> Result<(), AllocError>
     ensures { OnOk result (ranges_of ranges.new.entries ≡ put_back before.entry.items (ranges_of ranges.old.entries)) }
 {
     while let Some(Before { name, interval }) = before.pop() {

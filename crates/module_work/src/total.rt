@@ -13,7 +13,7 @@ use name_hash::NameHashing;
 use std::alloc::{AllocError, Global};
 
 /// The range of an index argument.
-fn range_or(range: Option<Interval>) -> Interval
+pub fn range_or(range: Option<Interval>) -> Interval
     ensures { result ≡ range_or range }
 {
     match range {

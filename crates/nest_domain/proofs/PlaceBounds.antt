@@ -31,7 +31,7 @@ use Rattle.affine_ast.specs.Nest.{Plain, Value, Load, Store, RawLoad, RawStore, 
 use Rattle.affine_ast.proofs.Names.{put-same, put-other}
 use Rattle.nest_domain.specs.Ways.{Header, Round, Given, Except, Behind, Past, has_name, used, loop_count}
 use Rattle.nest_domain.specs.Forms.{Formed, all_floor_rows}
-use Rattle.nest_domain.specs.Domains.{Known, operand_forms, map_forms, bound_forms, all_from, shifted, upper_row, last_row, upper_rows, set_rows, in_loop, in_condition, named, first_form, applied, picked_rows, with_pick, with_value, formed_behind, behind_plain, along, count_of, symbol_count, with_symbol, with_kind, with_arguments, nothing_known, place}
+use Rattle.nest_domain.specs.Domains.{Known, operand_forms, map_forms, bound_forms, all_from, shifted, upper_row, last_row, upper_row_over, upper_rows, set_rows, in_loop, in_condition, named, first_form, applied, picked_rows, with_pick, with_value, formed_behind, behind_plain, along, count_of, symbol_count, with_symbol, with_kind, with_arguments, nothing_known, place}
 use Rattle.nest_domain.specs.Laws.{HasResult, HasBounds}
 use Rattle.nest_domain.proofs.Rowed.{IsMinus, minus_gives}
 use Rattle.nest_domain.proofs.Bounding.{Measure, at, variable, at_worth, minus_same, Bounded, b_same, b_number, b_sum, b_scale, b_between, Fine, FloorHolds, BringsAll, all_over_boundable, HoldsOn, number_fine, padded_fine, floors_give}
@@ -167,7 +167,8 @@ module _ (S : List ℤ → ℤ → Type 0) (scale : (p : List ℤ) (y : ℤ) →
   upper_gives : (ls : List Form) (s : ℤ) (iv : Form) (us : List Form) → 0 < length us → Each Ok_ ls → Each Ok_ us → Gives (upper_rows ls s iv us) (λ rows. Each On rows → Over iv)
   upper_gives ls s iv [] n a b = absurd (omega arith)
   upper_gives [] s iv (u ∷ us) n a b = first_of (upper_row iv u) (upper_rows [] s iv us) (Over iv) (top_gives iv u b.0)
-  upper_gives (l ∷ []) s iv (u ∷ us) n a b = on (minus u l) _ (λ rows. Each On rows → Over iv) (λ d e. first_of (last_row l s iv u d) (upper_rows (l ∷ []) s iv us) (Over iv) (last_gives l s iv u d a.0 b.0))
+  upper_gives (l ∷ []) s iv (u ∷ us) n a b =
+      first_of (upper_row_over (l ∷ []) s iv u) (upper_rows (l ∷ []) s iv us) (Over iv) (on (minus u l) (λ d. last_row l s iv u d) (λ r. On r → Over iv) (λ d e. last_gives l s iv u d a.0 b.0))
   upper_gives (l ∷ (m ∷ ls)) s iv (u ∷ us) n a b = first_of (upper_row iv u) (upper_rows (l ∷ (m ∷ ls)) s iv us) (Over iv) (top_gives iv u b.0)
 
   -- ---- what is known

@@ -28,7 +28,7 @@ use Rattle.affine_expr.proofs.FormValues.{Gives, then, narrow_gives, worth, IsJo
 use Rattle.affine_expr.proofs.Locals.{floor_at, length-with_locals, kept}
 use Rattle.direct_meaning.specs.Static.{greatest}
 use Rattle.nest_domain.specs.Forms.{Formed, all_over, floor_rows, all_floor_rows}
-use Rattle.nest_domain.specs.Domains.{all_from, all_less, shifted, upper_row, last_row, upper_rows, compared_rows, set_rows}
+use Rattle.nest_domain.specs.Domains.{all_from, all_less, shifted, upper_row, last_row, upper_row_over, upper_rows, compared_rows, set_rows}
 use Rattle.affine_expr.proofs.Meaning.{padded_worth, padded_most, Is, Are, Good, over_gives}
 
 pub weaker : {A : Type 0} (w : Result A LinearFault) (P Q : A → Type 0) → Gives w P → ((x : A) → P x → Q x) → Gives w Q
@@ -150,8 +150,9 @@ module _ (n : ℕ) (p : List ℤ) where
   upper_rows_hold (l ∷ []) [] s iv t (u ∷ us) (w ∷ ws) k h a b c is less = absurd a
   upper_rows_hold (l ∷ []) (lv ∷ (mv ∷ lvs)) s iv t (u ∷ us) (w ∷ ws) k h a b c is less = absurd a.1
   upper_rows_hold (l ∷ []) (lv ∷ []) s iv t (u ∷ us) (w ∷ ws) k h a b c is less =
-      (then) (minus u l) (λ d. last_row l s iv u d >>= (λ r. upper_rows (l ∷ []) s iv us >>= (λ rs. Ok (r ∷ rs)))) (λ d. Is n p d (w -ℤ lv)) (Each (RowHolds n p)) (minus_is n p u l w lv c.0 a.0)
-      (λ d i. cons_gives (RowHolds n p) (last_row l s iv u d) (upper_rows (l ∷ []) s iv us) (last_row_holds l s iv u d lv t w k h a.0 b c.0 i is less.0) (upper_rows_hold (l ∷ []) (lv ∷ []) s iv t us ws k h a b c.1 is less.1))
+      cons_gives (RowHolds n p) (upper_row_over (l ∷ []) s iv u) (upper_rows (l ∷ []) s iv us)
+      ((then) (minus u l) (λ d. last_row l s iv u d) (λ d. Is n p d (w -ℤ lv)) (RowHolds n p) (minus_is n p u l w lv c.0 a.0) (λ d i. last_row_holds l s iv u d lv t w k h a.0 b c.0 i is less.0))
+      (upper_rows_hold (l ∷ []) (lv ∷ []) s iv t us ws k h a b c.1 is less.1)
   upper_rows_hold (l ∷ (m ∷ ls)) lvs s iv t (u ∷ us) (w ∷ ws) k h a b c is less =
       cons_gives (RowHolds n p) (upper_row iv u) (upper_rows (l ∷ (m ∷ ls)) s iv us) (upper_row_holds iv u t w b c.0 less.0) (upper_rows_hold (l ∷ (m ∷ ls)) lvs s iv t us ws k h a b c.1 is less.1)
 

@@ -30,7 +30,7 @@ use Rattle.affine_ast.specs.Names.{put}
 use Rattle.affine_ast.specs.Nest.{Plain, Value, Load, RawLoad, Constant, Binary, Cast}
 use Rattle.direct_meaning.specs.Work.{ranges_after}
 use Rattle.nest_domain.specs.Ways.{Header, Round, Given, Except, Behind, Past, has_name, used, loop_count}
-use Rattle.nest_domain.specs.Forms.{Formed, all_over, all_floor_rows}
+use Rattle.nest_domain.specs.Forms.{try_each, Formed, all_over, all_floor_rows}
 
 -- what a loop goes over: the forms of its lower and of its upper results, and its step
 pub record Going : Type 0 where
@@ -58,11 +58,7 @@ pub record Known : Type 0 where
 
 -- ---- the forms of operands, maps and bounds
 abbrev pub operand_forms : (Name → Option Form) → List Name → Result (List Form) LinearFault
-operand_forms forms [] = Ok []
-operand_forms forms (n ∷ ns) = do
-  f ← or_wide (forms n)
-  fs ← operand_forms forms ns
-  Ok (f ∷ fs)
+operand_forms forms = try_each (λ n. or_wide (forms n))
 
 -- the results of a map, over so many variables before the locals
 abbrev pub map_forms : (Name → Option Form) → ℕ → Access → List LocalForm → Result Formed LinearFault
@@ -78,20 +74,12 @@ bound_forms forms width (bound.Value n) ls = do
 bound_forms forms width (bound.Map at) ls = map_forms forms width at ls
 
 -- ---- rows
--- each form of the list less, or taken from, one form
+-- each form of the list taken from one form, or less one form
 abbrev pub all_from : Form → List Form → Result (List Form) LinearFault
-all_from f [] = Ok []
-all_from f (g ∷ gs) = do
-  r ← minus f g
-  rs ← all_from f gs
-  Ok (r ∷ rs)
+all_from f = try_each (minus f)
 
 abbrev pub all_less : List Form → Form → Result (List Form) LinearFault
-all_less [] g = Ok []
-all_less (f ∷ fs) g = do
-  r ← minus f g
-  rs ← all_less fs g
-  Ok (r ∷ rs)
+all_less fs g = try_each (λ f. minus f g) fs
 
 -- a form and a number more
 abbrev pub shifted : Form → ℤ → Result Form LinearFault
@@ -112,21 +100,16 @@ last_row l s iv u d =
     then (shifted l (floor_div (d.constant -ℤ pos 1) s *ℤ s) >>= (λ top. minus top iv))
     else upper_row iv u
 
-abbrev pub upper_rows : List Form → ℤ → Form → List Form → Result (List Form) LinearFault
-upper_rows ls s iv [] = Ok []
-upper_rows [] s iv (u ∷ us) = do
-  r ← upper_row iv u
-  rs ← upper_rows [] s iv us
-  Ok (r ∷ rs)
-upper_rows (l ∷ []) s iv (u ∷ us) = do
+-- the row of an upper result, over the loop's lower ones
+abbrev pub upper_row_over : List Form → ℤ → Form → Form → Result Form LinearFault
+upper_row_over [] s iv u = upper_row iv u
+upper_row_over (l ∷ []) s iv u = do
   d ← minus u l
-  r ← last_row l s iv u d
-  rs ← upper_rows (l ∷ []) s iv us
-  Ok (r ∷ rs)
-upper_rows (l ∷ (m ∷ ls)) s iv (u ∷ us) = do
-  r ← upper_row iv u
-  rs ← upper_rows (l ∷ (m ∷ ls)) s iv us
-  Ok (r ∷ rs)
+  last_row l s iv u d
+upper_row_over (l ∷ (m ∷ ls)) s iv u = upper_row iv u
+
+abbrev pub upper_rows : List Form → ℤ → Form → List Form → Result (List Form) LinearFault
+upper_rows ls s iv = try_each (upper_row_over ls s iv)
 
 -- the rows of a constraint, an equation two
 abbrev pub compared_rows : Rel → Form → Form → Result (List Form) LinearFault
@@ -221,14 +204,14 @@ with_value r Apply at k = applied r at k
 with_value r Min at k = with_pick r Min at (picked_range Min (ranges_at k.ranges at)) (variable_form (suc k.next) k.next) k
 with_value r Max at k = with_pick r Max at (picked_range Max (ranges_at k.ranges at)) (variable_form (suc k.next) k.next) k
 
-abbrev pub with_constant : Name → ℤ → Scalar → Known → Known
-with_constant r z (scalar.Int element) k = named r None k
-with_constant r z scalar.Index k = named r (Some (number_form 0 z)) k
+abbrev pub constant_named : Name → ℤ → Scalar → Known → Known
+constant_named r z (scalar.Int element) k = named r None k
+constant_named r z scalar.Index k = named r (Some (number_form 0 z)) k
 
 -- the forms behind a statement, whose value may be among those used
 abbrev pub formed_behind : Plain → List Name → Known → Result Known LinearFault
 formed_behind (Value r pick at) names k = if has_name r names then with_value r pick at k else Ok (named r None k)
-formed_behind (Constant r z ty) names k = Ok (with_constant r z ty k)
+formed_behind (Constant r z ty) names k = Ok (constant_named r z ty k)
 formed_behind (Load r m at ty) names k = Ok (named r None k)
 formed_behind (RawLoad r m at ty) names k = Ok (named r None k)
 formed_behind (Binary r op a b ty) names k = Ok (named r None k)

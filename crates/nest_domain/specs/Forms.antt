@@ -1,15 +1,18 @@
 -- Linear forms of several expressions over the forms of their operands, and the rows of their locals.
-use Rattle.std.specs.Prelude.{ℕ, ◌+◌, ◌-◌, pos, neg_ℤ, ◌+ℤ◌, ◌-ℤ◌, ◌*ℤ◌, List, [], ◌∷◌, ◌++◌, length, replicate, slice_get, Option, Some, None, Result, Ok, Err}
-use Rattle.affine_expr.specs.declared.expr.Expr.{Expr, fold-Expr}
-use Rattle.affine_expr.specs.declared.expr.Expr.TheOpen.{Expr-F}
+use Rattle.std.specs.Prelude.{ℕ, pos, neg_ℤ, ◌-ℤ◌, List, [], ◌∷◌, ◌++◌, length, Result, Ok}
+use Rattle.affine_expr.specs.declared.expr.Expr.{Expr}
 use Rattle.affine_expr.specs.declared.linear.LinearFault.{LinearFault}
-use Rattle.affine_expr.specs.declared.linear.LinearFault.TheVariants.{Wide}
-use Rattle.affine_expr.specs.declared.linear.Join.{Join}
-use Rattle.affine_expr.specs.declared.linear.Join.TheVariants.{Sum, Difference}
-use Rattle.affine_expr.specs.Value.{floor_div, ceil_div, floor_mod}
-use Rattle.affine_expr.specs.Spread.{both_fixed, one_fixed}
+use Rattle.affine_expr.specs.declared.linear.Join.TheVariants.{Difference}
 use Rattle.affine_expr.specs.Forms.{Form, LocalForm}
 use Rattle.affine_expr.specs.Linear.{◌>>=◌, join_forms, number_form, over}
+
+-- what a function gives for each of a list, where it refuses none
+abbrev pub try_each : {A B : Type 0} → (A → Result B LinearFault) → List A → Result (List B) LinearFault
+try_each f [] = Ok []
+try_each f (x ∷ xs) = do
+  y ← f x
+  ys ← try_each f xs
+  Ok (y ∷ ys)
 
 -- several forms, and the locals that stand after them
 pub record Formed : Type 0 where

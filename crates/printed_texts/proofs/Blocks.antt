@@ -1,9 +1,8 @@
 -- Statements with regions, and lists of statements, are spelled again.
-use Rattle.std.proofs.Common.{◌≡◌, ℕ, zero, suc, ◌≤◌, Bool, true, false, List, [], ◌∷◌, ◌++◌, Option, Some, None, codes, refl, sym, ap, ◌∙◌, subst, append_assoc, append-nil, inl, inr}
+use Rattle.std.proofs.Common.{◌≡◌, ℕ, suc, ◌≤◌, Bool, true, false, List, [], ◌∷◌, ◌++◌, Option, Some, None, codes, refl, sym, ap, ◌∙◌, subst, append_assoc, append-nil, inl, inr}
 use Rattle.readers.specs.Languages.{Lang, One, Both, Many, none, more, Giving, Optional}
 use Rattle.readers.proofs.Texts.{giving_text}
 use Rattle.affine_lex.specs.Scan.{after_word}
-use Rattle.affine_lex.proofs.Tests.{true_no}
 use Rattle.affine_lex.proofs.Written.{Piece, AreCut, cut_blank}
 use Rattle.affine_expr.specs.declared.map.Set.{Set}
 use Rattle.affine_ast.specs.declared.name.Name.{Name}
@@ -14,22 +13,19 @@ use Rattle.affine_ast.specs.Nest.{Nothing as NoStatement, Loop, Branch, put_what
 use Rattle.affine_ast.specs.Spelling.{name_text, statement_text, lines, line_text, deeper, block_text, for_text, named_text, bounds_text, step_text, if_text, set_text, else_text, opening_text, rows_text, operands_text}
 use Rattle.affine_ast.proofs.Spellings.{statement-For, statement-If, statement-If-else, lines-nil, lines-cons}
 use Rattle.affine_ast.proofs.Nests.{put-For, put-If, put-If-else}
-use Rattle.affine_grammar.specs.declared.words.Alias.{Alias}
 use Rattle.affine_grammar.specs.declared.words.Turns.{Turns}
-use Rattle.affine_grammar.specs.declared.words.Action.{Action}
-use Rattle.affine_grammar.specs.declared.words.Action.TheVariants as action
 use Rattle.affine_grammar.specs.Token.{Tok, sign, value, lined, with_line, definition_word, action_word}
-use Rattle.affine_grammar.specs.Grammar.{SomeSet, Operands}
+use Rattle.affine_grammar.specs.Grammar.{SomeSet}
 use Rattle.affine_grammar.specs.GrammarFile.{Regions, Defined, Acted, Else, behind, Statement, Statements, Region}
 use Rattle.printed_texts.specs.Nesting.{StatementsNest}
 use Rattle.printed_texts.specs.Lines.{unlined}
 use Rattle.printed_texts.proofs.Pieces.{Are, parted, is_white, Joins, Cuts, join_cut, Prints, seq, in_right, blank_before, blank_behind}
 use Rattle.printed_texts.proofs.Marks.{keyword, equals_sign, open_brace, close_brace}
-use Rattle.printed_texts.proofs.Given.{Given, IsWritten, given_left, given_right, given_one, value_given, value_prints, limited_some}
+use Rattle.printed_texts.proofs.Given.{IsWritten, value_prints}
 use Rattle.printed_texts.proofs.Maps.{set_head_text}
-use Rattle.printed_texts.proofs.Uses.{AliasesTold, UsedSet, some_set_told, ToldOperands, operands_told, operands_again}
-use Rattle.printed_texts.proofs.Bounds.{ToldTurns, turns_told}
-use Rattle.printed_texts.proofs.Plain.{ToldDefinition, definition_told, ToldAction, for_word, if_word, store_told, raw_store_told, dealloc_told, wait_told, start_told}
+use Rattle.printed_texts.proofs.Uses.{UsedSet, ToldOperands, operands_again}
+use Rattle.printed_texts.proofs.Bounds.{ToldTurns}
+use Rattle.printed_texts.proofs.Plain.{ToldDefinition, ToldAction, for_word, if_word}
 use Rattle.printed_texts.proofs.Unlined.{unlined_what, SameStatements, same_cons, first_nests}
 
 -- ---- bytes that spell some value
@@ -385,83 +381,7 @@ if_else_told left set vs first other total n1 n2 after s o region otherwise = re
         let e = else_pieces (codes "affine.if ") (opening_text (codes "affine_set<") set.dims set.syms) (rows_text set.rows) (operands_text set.dims vs) (codes "{\n") (lines (deeper margin) (nest first)) margin (codes "}") (codes " else {\n") (lines (deeper margin) (nest other)) in
         acts_prints (Region [] left) margin (what.If set vs first (Some other)) total after (loosen_writes (writes_as whole (sym e ∙ sym (statement-If-else margin set vs first other))))
 
--- ---- derivations
-
-abbrev TellsRegion : Regions → Regions → Type 0
-TellsRegion S R = (total : ℕ) (f : List Tok) (p : List Stmt × ℕ) → Given f → S total f p → ToldRegion R p.0 total p.1
-
-abbrev TellsStatement : Regions → ℕ → What × ℕ → Type 0
-TellsStatement R total p = ToldStatement R p.0 total p.1
-
-module _ (left : ℕ) (S : Regions) (aliases : List Alias) (known : AliasesTold aliases) (region : TellsRegion S (Region [] left)) where
-  for_told : (total : ℕ) (p : What × ℕ) (f : List Tok) → Given f → Acted S aliases total action.For f p → ToldStatement (Region [] left) p.0 total p.1
-  for_told total p f g h =
-      let i = h.second.second in
-      let j = i.second in
-      let g1 = given_right h.right h.second.left h.second.right h.second.parts (given_right f h.left h.right h.parts g) in
-      let g2 = given_right h.second.right i.left i.right i.parts g1 in
-      let v = value_given h.first.token h.value (given_one h.left h.first.token h.first.alone (given_left f h.left h.right h.parts g)) h.first.accepted in
-      let t = turns_told aliases total i.value i.left known (given_left h.second.right i.left i.right i.parts g1) i.first in
-      let r = region i.value.total j.left j.value (given_left i.right j.left j.right j.parts g2) j.first in
-      subst (TellsStatement (Region [] left) total) (sym j.second.1) (loop_told left h.value i.value j.value.0 total j.value.1 v t r)
-
-  branch_told : (total : ℕ) (p : What × ℕ) (f : List Tok) → Given f → Acted S aliases total action.If f p → ToldStatement (Region [] left) p.0 total p.1
-  branch_told total p f g h = by_else k.value k.first k.second.1
-    where
-      o : Both (Operands h.value.0.dims h.value.0.syms) (λ vs. Both (S h.value.1) (λ q. Giving (Optional (Else S q.1) (None, q.1)) (λ r. (what.If h.value.0 vs q.0 r.0, r.1)))) h.right p
-      o = h.second
-
-      b : Both (S h.value.1) (λ q. Giving (Optional (Else S q.1) (None, q.1)) (λ r. (what.If h.value.0 o.value q.0 r.0, r.1))) o.right p
-      b = o.second
-
-      k : Giving (Optional (Else S b.value.1) (None, b.value.1)) (λ r. (what.If h.value.0 o.value b.value.0 r.0, r.1)) b.right p
-      k = b.second
-
-      g1 : Given h.right
-      g1 = given_right f h.left h.right h.parts g
-
-      g2 : Given o.right
-      g2 = given_right h.right o.left o.right o.parts g1
-
-      gk : Given k.left
-      gk = given_left b.right k.left k.right k.parts (given_right o.right b.left b.right b.parts g2)
-
-      set : UsedSet h.value.0 total h.value.1
-      set = some_set_told aliases total h.value h.left known (given_left f h.left h.right h.parts g) h.first
-
-      names : ToldOperands h.value.0.dims h.value.0.syms o.value
-      names = operands_told h.value.0.dims h.value.0.syms o.value o.left (given_left h.right o.left o.right o.parts g1) o.first
-
-      first : ToldRegion (Region [] left) b.value.0 h.value.1 b.value.1
-      first = region h.value.1 b.left b.value (given_left o.right b.left b.right b.parts g2) b.first
-
-      by_else : (r : Option (List Stmt) × ℕ) → Optional (Else S b.value.1) (None, b.value.1) k.left r → p ≡ (what.If h.value.0 o.value b.value.0 r.0, r.1) → ToldStatement (Region [] left) p.0 total p.1
-      by_else r (inr x) e =
-          let q : p ≡ (what.If h.value.0 o.value b.value.0 None, b.value.1) = e ∙ ap (λ (r : Option (List Stmt) × ℕ). let y : What × ℕ = (what.If h.value.0 o.value b.value.0 r.0, r.1) in y) x.1 in
-          subst (TellsStatement (Region [] left) total) (sym q) (if_told left h.value.0 o.value b.value.0 total h.value.1 b.value.1 set names first)
-      by_else r (inl x) e =
-          let y = x.second in
-          let q : p ≡ (what.If h.value.0 o.value b.value.0 (Some y.value.0), y.value.1) = e ∙ ap (λ (r : Option (List Stmt) × ℕ). let y : What × ℕ = (what.If h.value.0 o.value b.value.0 r.0, r.1) in y) y.second.1 in
-          let other = region b.value.1 y.left y.value (given_left x.right y.left y.right y.parts (given_right k.left x.left x.right x.parts gk)) y.first in
-          subst (TellsStatement (Region [] left) total) (sym q) (if_else_told left h.value.0 o.value b.value.0 y.value.0 total h.value.1 b.value.1 y.value.1 set names first other)
-
-  acted_told : (total : ℕ) (a : Action) (p : What × ℕ) (f : List Tok) → Given f → Acted S aliases total a f p → ToldStatement (Region [] left) p.0 total p.1
-  acted_told total action.For p f g h = for_told total p f g h
-  acted_told total action.If p f g h = branch_told total p f g h
-  acted_told total action.Store p f g h = action_told (Region [] left) p.0 total p.1 (store_told S (Region [] left) aliases total p f g h)
-  acted_told total action.RawStore p f g h = action_told (Region [] left) p.0 total p.1 (raw_store_told S (Region [] left) aliases total p f g h)
-  acted_told total action.Dealloc p f g h = action_told (Region [] left) p.0 total p.1 (dealloc_told S (Region [] left) aliases total p f g h)
-  acted_told total action.Start p f g h = action_told (Region [] left) p.0 total p.1 (start_told S (Region [] left) aliases total p f g h)
-  acted_told total action.Wait p f g h = action_told (Region [] left) p.0 total p.1 (wait_told S (Region [] left) aliases total p f g h)
-
--- a statement more
-record ToldItem (R : Regions) (b c : List Stmt × ℕ) : Type 0 where
-  stmt : Stmt
-  stmt_is : c.0 ≡ b.0 ++ stmt ∷ []
-  told : ToldStatement R stmt.what b.1 c.1
-
-item_of : (R : Regions) (b : List Stmt × ℕ) (line : ℕ) (p : What × ℕ) → ToldStatement R p.0 b.1 p.1 → ToldItem R b (behind b.0 line p)
-item_of R b line p t = record { stmt = record { line = line; what = p.0 }; stmt_is = refl; told = t }
+-- ---- lines
 
 pub lined_some : {A : Type 0} (p : Tok → Option A) (t : Tok) (x : ℕ × A) → lined p t ≡ Some x → p t ≡ Some x.1
 lined_some {A = A} p t x h = by_case (p t) refl h
@@ -470,50 +390,6 @@ lined_some {A = A} p t x h = by_case (p t) refl h
     by_case (Some y) e q = let r : y ≡ x.1 = cc in e ∙ ap (λ z. Some z) r
     by_case None e q = absurd cc
 
-statement_told : (left : ℕ) (S : Regions) (aliases : List Alias) → AliasesTold aliases → TellsRegion S (Region [] left) → (b c : List Stmt × ℕ) (f : List Tok) → Given f → Statement S aliases b f c → ToldItem (Region [] left) b c
-statement_told left S aliases known region b c f g (inl h) =
-    let j = h.second.second in
-    let d = j.second in
-    let g1 = given_right h.right h.second.left h.second.right h.second.parts (given_right f h.left h.right h.parts g) in
-    let gd = given_left j.right d.left d.right d.parts (given_right h.second.right j.left j.right j.parts g1) in
-    let r = value_given h.first.token h.value.1 (given_one h.left h.first.token h.first.alone (given_left f h.left h.right h.parts g)) (lined_some value h.first.token h.value h.first.accepted) in
-    subst (ToldItem (Region [] left) b) (sym d.second.1) (item_of (Region [] left) b h.value.0 d.value (defined_told (Region [] left) h.value.1 d.value.0 b.1 d.value.1 r (definition_told aliases b.1 h.value.1 j.value d.value d.left known gd d.first)))
-statement_told left S aliases known region b c f g (inr h) =
-    let d = h.second in
-    let gd = given_left h.right d.left d.right d.parts (given_right f h.left h.right h.parts g) in
-    subst (ToldItem (Region [] left) b) (sym d.second.1) (item_of (Region [] left) b h.value.0 d.value (acted_told left S aliases known region b.1 h.value.1 d.value d.left gd d.first))
-
--- the statements behind some of a given text
-record ToldItems (R : Regions) (b c : List Stmt × ℕ) : Type 0 where
-  items : List Stmt
-  items_are : c.0 ≡ b.0 ++ items
-  told : ToldLines R items b.1 c.1
-
-items_more : (R : Regions) (b d c : List Stmt × ℕ) → ToldItem R b d → ToldItems R d c → ToldItems R b c
-items_more R b d c t r = record {
-  items = t.stmt ∷ r.items;
-  items_are = r.items_are ∙ ap (λ l. l ++ r.items) t.stmt_is ∙ append_assoc b.0 (t.stmt ∷ []) r.items;
-  told = told_more R t.stmt r.items b.1 d.1 c.1 t.told r.told;
-}
-
-items_told : (left : ℕ) (S : Regions) (aliases : List Alias) → AliasesTold aliases → TellsRegion S (Region [] left) → (b c : List Stmt × ℕ) (f : List Tok) → Given f → Many (Statement S aliases) b f c → ToldItems (Region [] left) b c
-items_told left S aliases known region b c f g (none _ _ p) = record { items = []; items_are = sym (append-nil b.0); told = told_none (Region [] left) b.1 }
-items_told left S aliases known region b c f g (more _ d _ _ l r p i m) =
-    items_more (Region [] left) b d c (statement_told left S aliases known region b d l (given_left f l r p g) i) (items_told left S aliases known region d c r (given_right f l r p g) m)
-
--- the statements of a region
-pub statements_told : (left : ℕ) (S : Regions) (aliases : List Alias) → AliasesTold aliases → TellsRegion S (Region [] left) → (total : ℕ) (p : List Stmt × ℕ) (f : List Tok) → Given f → Statements S aliases total f p → ToldLines (Region [] left) p.0 total p.1
-statements_told left S aliases known region total p f g h =
-    let t = items_told left S aliases known region ([], total) p f g h in
-    subst (λ ss. ToldLines (Region [] left) ss total p.1) (sym t.items_are) t.told
-
+-- the statements of a region are told as lines
 pub region_lines : (left : ℕ) (ss : List Stmt) (total after : ℕ) → ToldLines (Region [] left) ss total after → ToldRegion (Region [] (suc left)) ss total after
 region_lines left ss total after t = record { small = t.small; again = λ margin white h n. region_of left margin ss total after white (t.again (deeper margin) (deeper_white margin white) h n) }
-
--- a region of a given text is spelled again
-pub region_told : (aliases : List Alias) → AliasesTold aliases → (left : ℕ) → TellsRegion (Region aliases left) (Region [] left)
-region_told aliases known zero total f p g h = absurd (true_no (limited_some true (sign 123) h.first.token tt (given_one h.left h.first.token h.first.alone (given_left f h.left h.right h.parts g)).counted h.first.accepted).0)
-region_told aliases known (suc left) total f p g h =
-    let i = h.second in
-    let gi = given_left h.right i.left i.right i.parts (given_right f h.left h.right h.parts g) in
-    subst (λ (x : List Stmt × ℕ). ToldRegion (Region [] (suc left)) x.0 total x.1) (sym i.second.second.1) (region_lines left i.value.0 total i.value.1 (statements_told left (Region aliases left) aliases known (region_told aliases known left) total i.value i.left gi i.first))

@@ -8,16 +8,15 @@ use Rattle.affine_ast.specs.declared.types.Access.{Access}
 use Rattle.affine_ast.specs.declared.types.Bound.{Bound}
 use Rattle.affine_ast.specs.declared.types.Bound.TheVariants as bound
 use Rattle.affine_ast.specs.Spelling.{bound_text, pick_text, bounds_text, step_text, use_text}
-use Rattle.affine_grammar.specs.declared.words.Alias.{Alias}
 use Rattle.affine_grammar.specs.declared.words.Turns.{Turns}
 use Rattle.affine_grammar.specs.Token.{Tok, integer}
 use Rattle.affine_grammar.specs.GrammarFile.{BoundOf, Step, TurnsOf}
 use Rattle.printed_texts.specs.Nesting.{BoundNests, UseNests}
 use Rattle.printed_texts.proofs.Pieces.{ends, Prints, seq, prints_as, in_left, in_right, giving, nothing, loosen, blank_before, blank_behind}
 use Rattle.printed_texts.proofs.Marks.{is_keyword, keyword}
-use Rattle.printed_texts.proofs.Given.{Given, IsWritten, given_left, given_right, given_one, value_given, value_prints, integer_given, IsPositive}
-use Rattle.printed_texts.proofs.Uses.{AliasesTold, ToldUse, use_told}
-use Rattle.printed_texts.proofs.Types.{InRange, signed_told, signed_again, integer_again}
+use Rattle.printed_texts.proofs.Given.{IsWritten, value_prints, integer_given, IsPositive}
+use Rattle.printed_texts.proofs.Uses.{ToldUse}
+use Rattle.printed_texts.proofs.Types.{InRange, signed_again, integer_again}
 
 -- ---- bounds
 
@@ -49,15 +48,6 @@ module _ (w : List ℕ) (is_word : is_keyword w ≡ true) (same : bytes_eq w w �
       by_case false e h n =
           let p : Prints false (use_text at) (BoundOf w [] total) (bound.Map at, behind) = in_right (in_right (in_right (giving (λ (p : Access × ℕ). let q : Bound × ℕ = (bound.Map p.0, p.1) in q) (t.again false (inr e) (t.small h) n)))) in
           prints_as (loosen p) (ap (λ b. (if b then w ++ codes " " else []) ++ use_text at) (sym e))
-
-  bound_told : (aliases : List Alias) (total : ℕ) (p : Bound × ℕ) (f : List Tok) → AliasesTold aliases → Given f → BoundOf w aliases total f p → ToldBound w p.0 total p.1
-  bound_told aliases total p f t g (inl h) = subst (λ (x : Bound × ℕ). ToldBound w x.0 total x.1) (sym h.second.1) (int_bound total h.value (signed_told h.value h.left h.first))
-  bound_told aliases total p f t g (inr (inl h)) = subst (λ (x : Bound × ℕ). ToldBound w x.0 total x.1) (sym h.second.1) (value_bound total h.value (value_given h.first.token h.value (given_one h.left h.first.token h.first.alone (given_left f h.left h.right h.parts g)) h.first.accepted))
-  bound_told aliases total p f t g (inr (inr (inl h))) =
-      let i = h.second in
-      subst (λ (x : Bound × ℕ). ToldBound w x.0 total x.1) (sym i.second.1) (map_bound total i.value.0 i.value.1 (use_told aliases true total i.value i.left t (given_left h.right i.left i.right i.parts (given_right f h.left h.right h.parts g)) i.first))
-  bound_told aliases total p f t g (inr (inr (inr h))) =
-      subst (λ (x : Bound × ℕ). ToldBound w x.0 total x.1) (sym h.second.1) (map_bound total h.value.0 h.value.1 (use_told aliases false total h.value h.left t (given_left f h.left h.right h.parts g) h.first))
 
 -- ---- steps
 
@@ -105,12 +95,3 @@ turns_of total p q z a b s = record {
       let whole : Prints true (bound_text (codes "max ") p.0 ++ (codes " to " ++ (bound_text (codes "min ") q.0 ++ step_text z))) (TurnsOf [] total) t = seq x (λ r c. refl) w in
       prints_as whole (simp append_assoc refl);
 }
-
-pub turns_told : (aliases : List Alias) (total : ℕ) (t : Turns) (f : List Tok) → AliasesTold aliases → Given f → TurnsOf aliases total f t → ToldTurns t total
-turns_told aliases total t f a g h =
-    let i = h.second.second in
-    let j = i.second in
-    let g2 = given_right h.right h.second.left h.second.right h.second.parts (given_right f h.left h.right h.parts g) in
-    let p = bound_told (codes "max") refl refl aliases total h.value h.left a (given_left f h.left h.right h.parts g) h.first in
-    let q = bound_told (codes "min") refl refl aliases h.value.1 i.value i.left a (given_left h.second.right i.left i.right i.parts g2) i.first in
-    subst (λ x. ToldTurns x total) (sym j.second.1) (turns_of total h.value i.value j.value p q (step_told j.value j.left j.first))

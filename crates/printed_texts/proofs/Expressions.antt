@@ -12,7 +12,7 @@ use Rattle.affine_grammar.specs.declared.words.Leaves.{Leaves}
 use Rattle.affine_grammar.specs.declared.words.Leaves.TheVariants as leaves
 use Rattle.affine_grammar.specs.declared.words.Operator.{Operator}
 use Rattle.affine_grammar.specs.declared.words.Operator.TheVariants as operator
-use Rattle.affine_grammar.specs.Token.{Tok, Class, Sign, Keyword, ValueName, AliasName, FunctionName, Number, Size, ArrowSign, Relation, Other as NoClass, class, sum_op, product_op, sum_in, product_in, product_word, joined, number, negative_number}
+use Rattle.affine_grammar.specs.Token.{Tok, Class, Sign, Keyword, ValueName, AliasName, FunctionName, Number, Size, ArrowSign, Relation, Other as NoClass, class, sum_op, product_op, sum_in, product_in, product_word, joined, negative_number}
 use Rattle.affine_grammar.specs.Grammar.{Spelling, Factor, Product, Summand, Sum, UnaryOf, Other, Unary, Leaf, Expression, begun}
 use Rattle.printed_texts.specs.Nesting.{Depths, sum_depths, product_depths, depths_step, depths, Zeros, both_bare, zeros, printed_nesting, nests_within}
 use Rattle.printed_texts.proofs.Pieces.{Prints, in_left, in_right, giving}
@@ -21,7 +21,7 @@ use Rattle.printed_texts.proofs.Given.{Given, given_left, given_right}
 use Rattle.printed_texts.proofs.Depths.{depths-Neg, depths-Add, depths-Sub, depths-Mul, depths-FloorDiv, depths-CeilDiv, depths-Mod, zeros-Neg, zeros-Add, zeros-Sub, zeros-Mul, zeros-FloorDiv, zeros-CeilDiv, zeros-Mod}
 use Rattle.printed_texts.proofs.Places.{Placed, placed_sum, placed_product, placed_unary, product_more, sum_more, plus_op, minus_op, star_op, floor_op, ceil_op, mod_op}
 use Rattle.printed_texts.proofs.States.{Grown, grown_then, printed_leaves, moved, Room, Fixed, fixed_then}
-use Rattle.printed_texts.proofs.Leaves.{Again, Told, leaf_told, integer_told, minus_told, leaf_depths, integer_depths, minus_depths}
+use Rattle.printed_texts.proofs.Leaves.{Again, Told, leaf_depths, integer_depths, minus_depths}
 
 max_left : (a b n : ℕ) → max a b ≤ n → a ≤ n
 max_left a b n h = omega (arith, h)
@@ -205,141 +205,120 @@ sum_within left a b operator.Mod h p q = absurd (true_no h)
 
 -- ---- derivations
 
-record ToldProduct (l : Leaves) (left : ℕ) (s : State) (p : Expr × State) : Type 0 where
-  told : Told l s p
-  within : ProductWithin left p.0
+-- how deep the printed spelling of what stands in no parentheses of its own nests, alone and behind a `-`
+record OtherWithin (left : ℕ) (x : Expr) : Type 0 where
+  within : UnaryWithin left x
+  negated : NegatedWithin left x
 
-record ToldSum (l : Leaves) (left : ℕ) (s : State) (p : Expr × State) : Type 0 where
-  told : Told l s p
-  within : SumWithin left p.0
+-- each part of a language is within the levels that are left
+abbrev UnariesWithin : ℕ → (State → Spelling) → Type 0
+UnariesWithin left U = (s : State) (f : List Tok) (p : Expr × State) → Given f → U s f p → UnaryWithin left p.0
 
-record ToldUnary (l : Leaves) (left : ℕ) (s : State) (p : Expr × State) : Type 0 where
-  told : Told l s p
-  within : UnaryWithin left p.0
+unary_product : (left : ℕ) (x : Expr) → UnaryWithin left x → ProductWithin left x
+unary_product left x t h = omega (arith, t h, (ordered x).product)
 
-record ToldOther (l : Leaves) (left : ℕ) (s : State) (p : Expr × State) : Type 0 where
-  told : Told l s p
-  within : UnaryWithin left p.0
-  negated : NegatedWithin left p.0
+product_sum : (left : ℕ) (x : Expr) → ProductWithin left x → SumWithin left x
+product_sum left x t h = omega (arith, t h, (ordered x).sum)
 
--- each part of a language is told
-abbrev TellsUnary : Leaves → ℕ → (State → Spelling) → Type 0
-TellsUnary l left U = (s : State) (f : List Tok) (p : Expr × State) → Given f → U s f p → ToldUnary l left s p
-
-unary_product : (l : Leaves) (left : ℕ) (s : State) (p : Expr × State) → ToldUnary l left s p → ToldProduct l left s p
-unary_product l left s p t = record { told = t.told; within = λ h. omega (arith, t.within h, (ordered p.0).product) }
-
-product_sum : (l : Leaves) (left : ℕ) (s : State) (p : Expr × State) → ToldProduct l left s p → ToldSum l left s p
-product_sum l left s p t = record { told = t.told; within = λ h. omega (arith, t.within h, (ordered p.0).sum) }
-
-module _ (l : Leaves) (left : ℕ) (U : State → Spelling) (unary : TellsUnary l left U) where
-  factor_told : (s : State) (b c : Expr × State) (f : List Tok) → Given f → Factor U b f c → ToldProduct l left s b → ToldProduct l left s c
-  factor_told s b c f g i t =
+module _ (left : ℕ) (U : State → Spelling) (unary : UnariesWithin left U) where
+  factor_within : (b c : Expr × State) (f : List Tok) → Given f → Factor U b f c → ProductWithin left b.0 → ProductWithin left c.0
+  factor_within b c f g i t =
       let o = i.first in
       let q = i.second in
       let gr = given_right f i.left i.right i.parts g in
       let u = unary b.1 q.left q.value (given_left i.right q.left q.right q.parts gr) q.first in
-      let strong = product_strong (class o.token) i.value o.accepted in
-      subst (λ x. ToldProduct l left s x) (sym q.second.1) (record { told = joined_told l s b q.value i.value t.told u.told; within = product_within left b.0 q.value.0 i.value strong t.within u.within })
+      subst (λ (x : Expr × State). ProductWithin left x.0) (sym q.second.1) (product_within left b.0 q.value.0 i.value (product_strong (class o.token) i.value o.accepted) t u)
 
-  factors_told : (s : State) (b c : Expr × State) (f : List Tok) → Given f → Many (Factor U) b f c → ToldProduct l left s b → ToldProduct l left s c
-  factors_told s b c f g (none _ _ p) t = t
-  factors_told s b c f g (more _ d _ _ left_part right_part p i m) t = factors_told s d c right_part (given_right f left_part right_part p g) m (factor_told s b d left_part (given_left f left_part right_part p g) i t)
+  factors_within : (b c : Expr × State) (f : List Tok) → Given f → Many (Factor U) b f c → ProductWithin left b.0 → ProductWithin left c.0
+  factors_within b c f g (none _ _ p) t = t
+  factors_within b c f g (more _ d _ _ l r p i m) t = factors_within d c r (given_right f l r p g) m (factor_within b d l (given_left f l r p g) i t)
 
-  product_told : (s : State) (f : List Tok) (p : Expr × State) → Given f → Product U s f p → ToldProduct l left s p
-  product_told s f p g h =
-      factors_told s h.value p h.right (given_right f h.left h.right h.parts g) h.second
-      (unary_product l left s h.value (unary s h.left h.value (given_left f h.left h.right h.parts g) h.first))
+  whole_product : (s : State) (f : List Tok) (p : Expr × State) → Given f → Product U s f p → ProductWithin left p.0
+  whole_product s f p g h =
+      factors_within h.value p h.right (given_right f h.left h.right h.parts g) h.second
+      (unary_product left h.value.0 (unary s h.left h.value (given_left f h.left h.right h.parts g) h.first))
 
-  summand_told : (s : State) (b c : Expr × State) (f : List Tok) → Given f → Summand U b f c → ToldSum l left s b → ToldSum l left s c
-  summand_told s b c f g i t =
+  summand_within : (b c : Expr × State) (f : List Tok) → Given f → Summand U b f c → SumWithin left b.0 → SumWithin left c.0
+  summand_within b c f g i t =
       let o = i.first in
       let q = i.second in
       let gr = given_right f i.left i.right i.parts g in
-      let u = product_told b.1 q.left q.value (given_left i.right q.left q.right q.parts gr) q.first in
-      let weak = sum_weak (class o.token) i.value o.accepted in
-      subst (λ x. ToldSum l left s x) (sym q.second.1) (record { told = joined_told l s b q.value i.value t.told u.told; within = sum_within left b.0 q.value.0 i.value weak t.within u.within })
+      let u = whole_product b.1 q.left q.value (given_left i.right q.left q.right q.parts gr) q.first in
+      subst (λ (x : Expr × State). SumWithin left x.0) (sym q.second.1) (sum_within left b.0 q.value.0 i.value (sum_weak (class o.token) i.value o.accepted) t u)
 
-  summands_told : (s : State) (b c : Expr × State) (f : List Tok) → Given f → Many (Summand U) b f c → ToldSum l left s b → ToldSum l left s c
-  summands_told s b c f g (none _ _ p) t = t
-  summands_told s b c f g (more _ d _ _ left_part right_part p i m) t = summands_told s d c right_part (given_right f left_part right_part p g) m (summand_told s b d left_part (given_left f left_part right_part p g) i t)
+  summands_within : (b c : Expr × State) (f : List Tok) → Given f → Many (Summand U) b f c → SumWithin left b.0 → SumWithin left c.0
+  summands_within b c f g (none _ _ p) t = t
+  summands_within b c f g (more _ d _ _ l r p i m) t = summands_within d c r (given_right f l r p g) m (summand_within b d l (given_left f l r p g) i t)
 
-  sum_told : (s : State) (f : List Tok) (p : Expr × State) → Given f → Sum U s f p → ToldSum l left s p
-  sum_told s f p g h =
-      summands_told s h.value p h.right (given_right f h.left h.right h.parts g) h.second
-      (product_sum l left s h.value (product_told s h.left h.value (given_left f h.left h.right h.parts g) h.first))
+  whole_sum : (s : State) (f : List Tok) (p : Expr × State) → Given f → Sum U s f p → SumWithin left p.0
+  whole_sum s f p g h =
+      summands_within h.value p h.right (given_right f h.left h.right h.parts g) h.second
+      (product_sum left h.value.0 (whole_product s h.left h.value (given_left f h.left h.right h.parts g) h.first))
 
 -- a leaf, and an integer
-leaf_other_told : (l : Leaves) (left : ℕ) (s : State) (f : List Tok) (p : Expr × State) → Given f → Leaf l s f p → ToldOther l left s p
-leaf_other_told l left s f p g h =
+leaf_within : (l : Leaves) (left : ℕ) (s : State) (f : List Tok) (p : Expr × State) → Given f → Leaf l s f p → OtherWithin left p.0
+leaf_within l left s f p g h =
     let z = leaf_depths l s f p g h in
     let u : (depths p.0).unary ≡ 0 = ap (λ (y : Depths). y.unary) z in
     let n : (depths p.0).negated ≡ 0 = ap (λ (y : Depths). y.negated) z in
-    record { told = leaf_told l s f p g h; within = λ b. omega (arith, u); negated = λ b c. omega (arith, n) }
+    record { within = λ b. omega (arith, u); negated = λ b c. omega (arith, n) }
 
-minus_other_told : (l : Leaves) (left : ℕ) (s : State) (f : List Tok) (p : Expr × State) → Given f → One (negative_number s) f p → ToldOther l left s p
-minus_other_told l left s f p g h =
+minus_within : (left : ℕ) (s : State) (f : List Tok) (p : Expr × State) → Given f → One (negative_number s) f p → OtherWithin left p.0
+minus_within left s f p g h =
     let z = minus_depths s f p g h in
-    record { told = minus_told l s f p g h; within = λ b. omega (arith, z.unary); negated = λ b c. omega (arith, z.negated c) }
-
-number_unary_told : (l : Leaves) (left : ℕ) (s : State) (f : List Tok) (p : Expr × State) → Given f → One (number s) f p → ToldUnary l left s p
-number_unary_told l left s f p g h = record { told = integer_told l s f p g h; within = λ b. omega (arith, integer_depths s f p g h) }
-
-other_unary_told : (l : Leaves) (left : ℕ) (s : State) (p : Expr × State) → ToldOther l left s p → ToldUnary l left s p
-other_unary_told l left s p t = record { told = t.told; within = t.within }
+    record { within = λ b. omega (arith, z.unary); negated = λ b c. omega (arith, z.negated c) }
 
 -- a negation, and parentheses
-neg_other_told : (l : Leaves) (left : ℕ) (s : State) (a : Expr × State) → ToldOther l left s a → ToldOther l (suc left) s (e.Neg a.0, a.1)
-neg_other_told l left s a t = record { told = neg_told l s a t.told; within = λ h. omega (arith, u, n h); negated = λ h c. omega (arith, v, n h) }
+neg_within : (left : ℕ) (a : Expr) → OtherWithin left a → OtherWithin (suc left) (e.Neg a)
+neg_within left a t = record { within = λ h. omega (arith, u, n h); negated = λ h c. omega (arith, v, n h) }
   where
-    u : (depths (e.Neg a.0)).unary ≡ suc (depths a.0).negated
-    u = ap (λ (y : Depths). y.unary) (depths-Neg a.0)
+    u : (depths (e.Neg a)).unary ≡ suc (depths a).negated
+    u = ap (λ (y : Depths). y.unary) (depths-Neg a)
 
-    v : (depths (e.Neg a.0)).negated ≡ suc (depths a.0).negated
-    v = ap (λ (y : Depths). y.negated) (depths-Neg a.0)
+    v : (depths (e.Neg a)).negated ≡ suc (depths a).negated
+    v = ap (λ (y : Depths). y.negated) (depths-Neg a)
 
     no : (b : Bool) → not b ≡ true → b ≡ false
     no true k = absurd (true_no (sym k))
     no false k = refl
 
-    n : (zeros (e.Neg a.0)).bare ≡ true → (depths a.0).negated ≤ left
+    n : (zeros (e.Neg a)).bare ≡ true → (depths a).negated ≤ left
     n h =
-        let b : ((zeros a.0).bare && not (zeros a.0).zero) ≡ true = ap (λ (y : Zeros). y.bare) (sym (zeros-Neg a.0)) ∙ h in
-        t.negated (and_left (zeros a.0).bare (not (zeros a.0).zero) b) (no (zeros a.0).zero (and_right (zeros a.0).bare (not (zeros a.0).zero) b))
+        let b : ((zeros a).bare && not (zeros a).zero) ≡ true = ap (λ (y : Zeros). y.bare) (sym (zeros-Neg a)) ∙ h in
+        t.negated (and_left (zeros a).bare (not (zeros a).zero) b) (no (zeros a).zero (and_right (zeros a).bare (not (zeros a).zero) b))
 
-sum_other_told : (l : Leaves) (left : ℕ) (s : State) (p : Expr × State) → ToldSum l left s p → ToldOther l (suc left) s p
-sum_other_told l left s p t = record {
-  told = t.told;
-  within = λ h. omega (arith, t.within h, (ordered p.0).unary, (ordered p.0).negated);
-  negated = λ h c. omega (arith, t.within h, (ordered p.0).negated);
+enclosed_within : (left : ℕ) (x : Expr) → SumWithin left x → OtherWithin (suc left) x
+enclosed_within left x t = record {
+  within = λ h. omega (arith, t h, (ordered x).unary, (ordered x).negated);
+  negated = λ h c. omega (arith, t h, (ordered x).negated);
 }
 
-unary_of_told : (l : Leaves) (left : ℕ) → ((s : State) (f : List Tok) (p : Expr × State) → Given f → Other l left s f p → ToldOther l left s p) → TellsUnary l left (UnaryOf (Other l left))
-unary_of_told l left other s f p g (inl h) = number_unary_told l left s f p g h
-unary_of_told l left other s f p g (inr h) = other_unary_told l left s p (other s f p g h)
+abbrev OthersWithin : Leaves → ℕ → Type 0
+OthersWithin l left = (s : State) (f : List Tok) (p : Expr × State) → Given f → Other l left s f p → OtherWithin left p.0
 
-other_told : (l : Leaves) (left : ℕ) (s : State) (f : List Tok) (p : Expr × State) → Given f → Other l left s f p → ToldOther l left s p
-other_told l zero s f p g (inl h) = minus_other_told l zero s h.right p (given_right f h.left h.right h.parts g) h.second
-other_told l zero s f p g (inr h) = leaf_other_told l zero s f p g h
-other_told l (suc left) s f p g (inl h) = behind (other_told l left s) h.second
+unaries_within : (l : Leaves) (left : ℕ) → OthersWithin l left → UnariesWithin left (UnaryOf (Other l left))
+unaries_within l left other s f p g (inl h) = λ b. (let u = integer_depths s f p g h in omega (arith, u))
+unaries_within l left other s f p g (inr h) = (other s f p g h).within
+
+others_within : (l : Leaves) (left : ℕ) → OthersWithin l left
+others_within l zero s f p g (inl h) = minus_within zero s h.right p (given_right f h.left h.right h.parts g) h.second
+others_within l zero s f p g (inr h) = leaf_within l zero s f p g h
+others_within l (suc left) s f p g (inl h) = behind (others_within l left s) h.second
   where
     gr : Given h.right
     gr = given_right f h.left h.right h.parts g
 
-    behind : ((f : List Tok) (p : Expr × State) → Given f → Other l left s f p → ToldOther l left s p) → Either (One (negative_number s)) (Both (Other l left s) (λ q. Nothing (e.Neg q.0, q.1))) h.right p → ToldOther l (suc left) s p
-    behind ih (inl i) = minus_other_told l (suc left) s h.right p gr i
-    behind ih (inr i) = subst (λ x. ToldOther l (suc left) s x) (sym i.second.1) (neg_other_told l left s i.value (ih i.left i.value (given_left h.right i.left i.right i.parts gr) i.first))
-other_told l (suc left) s f p g (inr (inl h)) =
+    behind : ((f : List Tok) (p : Expr × State) → Given f → Other l left s f p → OtherWithin left p.0) → Either (One (negative_number s)) (Both (Other l left s) (λ q. Nothing (e.Neg q.0, q.1))) h.right p → OtherWithin (suc left) p.0
+    behind ih (inl i) = minus_within (suc left) s h.right p gr i
+    behind ih (inr i) = subst (λ (x : Expr × State). OtherWithin (suc left) x.0) (sym i.second.1) (neg_within left i.value.0 (ih i.left i.value (given_left h.right i.left i.right i.parts gr) i.first))
+others_within l (suc left) s f p g (inr (inl h)) =
     let i = h.second in
     let gr = given_right f h.left h.right h.parts g in
-    let t = sum_told l left (UnaryOf (Other l left)) (unary_of_told l left (λ s. other_told l left s)) s i.left i.value (given_left h.right i.left i.right i.parts gr) i.first in
-    subst (λ x. ToldOther l (suc left) s x) (sym i.second.second.1) (sum_other_told l left s i.value t)
-other_told l (suc left) s f p g (inr (inr h)) = leaf_other_told l (suc left) s f p g h
+    let t = whole_sum left (UnaryOf (Other l left)) (unaries_within l left (λ s. others_within l left s)) s i.left i.value (given_left h.right i.left i.right i.parts gr) i.first in
+    subst (λ (x : Expr × State). OtherWithin (suc left) x.0) (sym i.second.second.1) (enclosed_within left i.value.0 t)
+others_within l (suc left) s f p g (inr (inr h)) = leaf_within l (suc left) s f p g h
 
 -- ---- whole expressions
-
-expression_sum : (l : Leaves) (s : State) (f : List Tok) (p : Expr × State) → Given f → Expression l s f p → ToldSum l 128 (begun s) p
-expression_sum l s f p g h = sum_told l 128 (Unary l 128) (unary_of_told l 128 (other_told l 128)) (begun s) f p g h
 
 or_true : (a b : Bool) → (a || b) ≡ true → (a ≡ true) ⊎ (b ≡ true)
 or_true true b h = inl refl
@@ -380,10 +359,7 @@ expression_of l s p t w =
       again = λ d final room i n. subst (λ u. Prints true (texts (printed_leaves l final) p.0).sum (Sum (Unary l 128) u) (p.0, moved l d p.1)) (moved_begun l d s) ((t.placed d final room i).sum 128 (w n));
     }
 
-pub expression_told : (l : Leaves) (s : State) (f : List Tok) (p : Expr × State) → Given f → Expression l s f p → ToldExpression l s p
-expression_told l s f p g h = let t = expression_sum l s f p g h in expression_of l s p t.told (nesting_within p.0 t.within)
-
 -- the printed spelling of an expression of a given text nests within the limit, but for a negated 0
 pub expression_depth : (l : Leaves) (s : State) (f : List Tok) (p : Expr × State) → Given f → Expression l s f p → nests_within p.0 ≡ true → printed_nesting p.0 ≤ 128
 unfolding printed_nesting
-expression_depth l s f p g h n = nesting_within p.0 (expression_sum l s f p g h).within n
+expression_depth l s f p g h n = nesting_within p.0 (whole_sum 128 (Unary l 128) (unaries_within l 128 (others_within l 128)) (begun s) f p g h) n

@@ -21,7 +21,7 @@ use Rattle.affine_lex.proofs.Tests.{true_no}
 use Rattle.printed_texts.specs.Nesting.{Depths, unary_depths, literal_depths, depths, Zeros, zeros}
 use Rattle.printed_texts.proofs.Pieces.{is_word_first, is_word_byte, tok, Prints, seq, in_left, in_right, loosen}
 use Rattle.printed_texts.proofs.Marks.{NoArrow, is_keyword, word_piece, name_piece, number_piece, IsValueName, all_word, decimal_digits, is_within}
-use Rattle.printed_texts.proofs.Given.{Given, given_left, given_right, given_one, limited_some, of_keyword_some, of_value_some, value_name, integer_given, negative_given}
+use Rattle.printed_texts.proofs.Given.{Given, given_one, limited_some, of_keyword_some, of_value_some, negative_given}
 use Rattle.printed_texts.proofs.Depths.{depths-Dim, depths-Sym, depths-Const, zeros-Const}
 use Rattle.printed_texts.proofs.Places.{Placed, placed_unary, placed_number, placed_negative, parens}
 use Rattle.printed_texts.proofs.States.{params, param_number, symbol_none, Numbered, number_of_some, numbered_behind, Appeared, appeared, Grown, grown_counting, numbered_dims, numbered_syms, first_numbered, printed_leaves, moved, Room, Fixed, fixed_counting, moved_counting, not_full, moved_not_full}
@@ -239,47 +239,6 @@ symbol_told s w h f =
     }
 
 -- ---- leaves
-
-pub leaf_told : (l : Leaves) (s : State) (f : List Tok) (p : Expr × State) → Given f → Leaf l s f p → Told l s p
-leaf_told leaves.Parameters s f p g h =
-    let i = limited_some (is_full s) (λ t. of_keyword (parameter_of s) (class t)) h.token p (given_one f h.token h.alone g).counted h.accepted in
-    let w = of_keyword_some (parameter_of s) p (class h.token) i.1 in
-    parameter_told s p i.0 (parameter_is s w.0 p w.1.1)
-leaf_told leaves.Values s f p g (inr h) =
-    let t = given_one f h.token h.alone g in
-    let i = limited_some (is_full s) (λ t. of_value (λ v. Some (dimension_of s v)) (class t)) h.token p t.counted h.accepted in
-    let w = of_value_some (λ v. Some (dimension_of s v)) p (class h.token) i.1 in
-    let q : dimension_of s w.0 ≡ p = cc (w.1.1) in
-    subst (Told leaves.Values s) q (dimension_told s w.0 (value_name h.token w.0 t w.1.0) i.0)
-leaf_told leaves.Values s f p g (inl h) =
-    let x = h.first in
-    let y = h.second.second.first in
-    let gx = given_left f h.left h.right h.parts g in
-    let gr = given_right f h.left h.right h.parts g in
-    let gi = given_right h.right h.second.left h.second.right h.second.parts gr in
-    let gy = given_left h.second.right h.second.second.left h.second.second.right h.second.second.parts gi in
-    let i = limited_some (is_full s) (word (codes "symbol")) x.token tt (given_one h.left x.token x.alone gx).counted x.accepted in
-    let w = of_value_some (λ v. Some (symbol_of s v)) h.second.second.value (class y.token) y.accepted in
-    let q : symbol_of s w.0 ≡ h.second.second.value = cc (w.1.1) in
-    let r : h.second.second.value ≡ p = sym h.second.second.second.second.1 in
-    subst (Told leaves.Values s) (q ∙ r) (symbol_told s w.0 (value_name y.token w.0 (given_one h.second.second.left y.token y.alone gy) w.1.0) i.0)
-
--- an integer, and one behind a `-`
-pub integer_told : (l : Leaves) (s : State) (f : List Tok) (p : Expr × State) → Given f → One (number s) f p → Told l s p
-integer_told l s f p g h =
-    let i = limited_some (is_full s) (λ t. counted_leaf (λ z. e.Const z) s (integer t)) h.token p (given_one f h.token h.alone g).counted h.accepted in
-    let c = counted_some (λ z. e.Const z) s (integer h.token) p i.1 in
-    let z = integer_given h.token c.0 c.1.0 in
-    let q : (e.Const (pos z.magnitude), counting s) ≡ p = ap (λ (y : ℤ). let o : Expr × State = (e.Const y, counting s) in o) (sym z.is) ∙ c.1.1 in
-    subst (Told l s) q (number_told l s z.magnitude z.small i.0)
-
-pub minus_told : (l : Leaves) (s : State) (f : List Tok) (p : Expr × State) → Given f → One (negative_number s) f p → Told l s p
-minus_told l s f p g h =
-    let i = limited_some (is_full s) (λ t. counted_leaf (λ z. e.Const z) s (negative t)) h.token p (given_one f h.token h.alone g).counted h.accepted in
-    let c = counted_some (λ z. e.Const z) s (negative h.token) p i.1 in
-    let z = negative_given h.token c.0 c.1.0 in
-    let q : (e.Const (neg_ℤ (pos z.magnitude)), counting s) ≡ p = ap (λ (y : ℤ). let o : Expr × State = (e.Const y, counting s) in o) (sym z.is) ∙ c.1.1 in
-    subst (Told l s) q (negative_told l s z.magnitude z.small i.0)
 
 -- ---- depths
 

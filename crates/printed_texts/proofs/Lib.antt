@@ -26,4 +26,5 @@ pub mod Writing
 pub mod Walked
 pub mod Spelt
 pub mod SpeltTexts
+pub mod Composed
 pub mod Examples

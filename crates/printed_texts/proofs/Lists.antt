@@ -1,6 +1,6 @@
 -- Lists of expressions and rows of a given text are spelled again.
 use Rattle.std.proofs.Common.{◌≡◌, ℕ, ◌&&◌, nat_le, Bool, true, false, if◌then◌else◌, List, [], ◌∷◌, ◌++◌, length, Some, None, flat_map, codes, refl, sym, ap, ◌∙◌, subst, append_assoc, append-nil, inl, inr, ◌⊎◌}
-use Rattle.readers.specs.Languages.{One, Many, none, more}
+use Rattle.readers.specs.Languages.{One, Many}
 use Rattle.affine_lex.specs.declared.token.Kind.TheVariants as k
 use Rattle.affine_expr.specs.declared.expr.Expr.{Expr}
 use Rattle.affine_expr.specs.declared.map.Constraint.{Constraint}
@@ -15,9 +15,9 @@ use Rattle.affine_grammar.specs.Grammar.{NextResult, Row, NextRow}
 use Rattle.printed_texts.specs.Nesting.{nests_within, AllNest, RowsNest}
 use Rattle.printed_texts.proofs.Pieces.{tok, ends, Prints, seq, giving, no_item, item_then, blank_before, blank_behind}
 use Rattle.printed_texts.proofs.Marks.{tight_piece, greater_equal_piece, less_equal_piece, equal_piece}
-use Rattle.printed_texts.proofs.Given.{Given, IsGiven, given_left, given_right, given_one, limited_some}
+use Rattle.printed_texts.proofs.Given.{IsGiven, limited_some}
 use Rattle.printed_texts.proofs.States.{Grown, grown_same, grown_then, printed_leaves, moved, Room, Fixed, fixed_then}
-use Rattle.printed_texts.proofs.Expressions.{ToldExpression, expression_told}
+use Rattle.printed_texts.proofs.Expressions.{ToldExpression}
 
 pub fixed_same : (l : Leaves) (s : State) → Fixed l s s
 fixed_same leaves.Parameters s = (refl, refl)
@@ -71,17 +71,6 @@ list_more l b c q h t r = record {
         seq (comma_again 8 several (length b.0) e h) tt (giving (λ (p : Expr × State). (b.0 ++ p.0 ∷ [], p.1)) (t.again d final room (grown_then q.1 c.1 final r.grown g) n.0)) in
         item_then x (more_joins (expression_text (printed_leaves l final)) r.items) (r.again several (inl e) d final room g n.1)
 
-pub list_told : (l : Leaves) (several : Bool) (b c : List Expr × State) (f : List Tok) → Given f → Many (NextResult l several) b f c → ToldList l b c
-list_told l several b c f g (none _ _ p) = list_none l b
-list_told l several b c f g (more _ d _ _ left right p i m) =
-    let gl = given_left f left right p g in
-    let gr = given_right f left right p g in
-    let rest = list_told l several d c right gr m in
-    let q = i.second in
-    let ge = given_left i.right q.left q.right q.parts (given_right left i.left i.right i.parts gl) in
-    let h = comma_given 8 several (length b.0) i.first.token (given_one i.left i.first.token i.first.alone (given_left left i.left i.right i.parts gl)) i.first.accepted in
-    list_more l b c q.value h (expression_told l b.1 q.left q.value ge q.first) (subst (λ x. ToldList l x c) q.second.1 rest)
-
 -- ---- rows
 
 pub record ToldRows (b c : List Constraint × State) : Type 0 where
@@ -121,16 +110,6 @@ row_of b p q r t u = record {
       (seq (relation_again r) tt (giving (λ (z : Expr × State). (b.0 ++ record { left = p.0; rel = r; right = z.0 } ∷ [], z.1)) (u.again d final room g n)));
 }
 
-pub row_told : (b c : List Constraint × State) (f : List Tok) → Given f → Row b f c → ToldRow b c
-row_told b c f g h =
-    let r = h.second in
-    let q = r.second in
-    let g1 = given_left f h.left h.right h.parts g in
-    let g2 = given_right f h.left h.right h.parts g in
-    let g3 = given_right h.right r.left r.right r.parts g2 in
-    let g4 = given_left r.right q.left q.right q.parts g3 in
-    subst (ToldRow b) (sym q.second.1) (row_of b h.value q.value r.value (expression_told leaves.Parameters b.1 h.left h.value g1 h.first) (expression_told leaves.Parameters h.value.1 q.left q.value g4 q.first))
-
 pub rows_none : (b : List Constraint × State) → ToldRows b b
 rows_none b = record { items = []; items_are = sym (append-nil b.0); grown = grown_same b.1; fixed = (refl, refl); again = λ d final room g n. no_item (b.0, moved leaves.Parameters d b.1) }
 
@@ -145,11 +124,3 @@ rows_more b m c h t r = record {
       let y : Prints true (more_text row_text r.items) (Many NextRow (m.0, moved leaves.Parameters d m.1)) (c.0, moved leaves.Parameters d c.1) = r.again d final room g n.2 in
       item_then {o = true} {m = true} {s = codes ", " ++ row_text t.row} {t = more_text row_text r.items} {L = NextRow} {b = (b.0, moved leaves.Parameters d b.1)} {c = (m.0, moved leaves.Parameters d m.1)} {d = (c.0, moved leaves.Parameters d c.1)} x (more_joins row_text r.items) y;
 }
-
-pub rows_told : (b c : List Constraint × State) (f : List Tok) → Given f → Many NextRow b f c → ToldRows b c
-rows_told b c f g (none _ _ p) = rows_none b
-rows_told b c f g (more _ d _ _ left right p i m) =
-    let gl = given_left f left right p g in
-    let gr = given_right f left right p g in
-    let h = comma_given 16 true (length b.0) i.first.token (given_one i.left i.first.token i.first.alone (given_left left i.left i.right i.parts gl)) i.first.accepted in
-    rows_more b d c h (row_told b d i.right (given_right left i.left i.right i.parts gl) i.second) (rows_told d c right gr m)

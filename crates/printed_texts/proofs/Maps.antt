@@ -10,17 +10,16 @@ use Rattle.affine_ast.specs.Spelling.{expression_text, parameters, row_text, lis
 use Rattle.affine_grammar.specs.declared.words.State.{State}
 use Rattle.affine_grammar.specs.declared.words.Scope.{Scope}
 use Rattle.affine_grammar.specs.declared.words.Leaves.TheVariants as leaves
-use Rattle.affine_grammar.specs.Token.{Tok, sign, arrow}
+use Rattle.affine_grammar.specs.Token.{sign, arrow}
 use Rattle.affine_grammar.specs.Grammar.{Result, NextResult, Results, Row, NextRow, Rows, over, map_with, Map0, set_with, Set0}
 use Rattle.printed_texts.specs.Nesting.{AllNest, RowsNest}
 use Rattle.printed_texts.proofs.Pieces.{Prints, seq, prints_as, giving, blank_before, blank_behind}
 use Rattle.printed_texts.proofs.Marks.{keyword, arrow_piece, less_sign, greater_sign, colon_sign}
-use Rattle.printed_texts.proofs.Given.{Given, given_left, given_right}
 use Rattle.printed_texts.proofs.Places.{parens}
 use Rattle.printed_texts.proofs.States.{params, Grown, grown_same, grown_then, moved, Room, Fixed, fixed_then}
-use Rattle.printed_texts.proofs.Expressions.{ToldExpression, expression_told}
-use Rattle.printed_texts.proofs.Lists.{more_text, more_joins, ToldList, list_told, ToldRow, row_told, ToldRows, rows_told}
-use Rattle.printed_texts.proofs.Params.{length_params, scope_of, params_again, FewNames, params_told}
+use Rattle.printed_texts.proofs.Expressions.{ToldExpression}
+use Rattle.printed_texts.proofs.Lists.{more_text, more_joins, ToldList, ToldRow, ToldRows}
+use Rattle.printed_texts.proofs.Params.{length_params, scope_of, params_again, FewNames}
 
 -- ---- results
 
@@ -54,18 +53,6 @@ results_of s p b t r = record {
         r.again several c d b.1 room (grown_same b.1) m.1 in
         let e : expression_text parameters p.0 ++ more_text (expression_text parameters) r.items ≡ listed (expression_text parameters) b.0 = ap (λ l. listed (expression_text parameters) l) (sym r.items_are) in
         parens (prints_as (seq x (more_joins (expression_text parameters) r.items) y) e)
-
-pub results_told : (several : Bool) (s : State) (b : List Expr × State) (f : List Tok) → Given f → Results several s f b → ToldResults s b
-results_told several s b f g h =
-    let i = h.second in
-    let j = i.first in
-    let g1 = given_left h.right i.left i.right i.parts (given_right f h.left h.right h.parts g) in
-    let gl = given_left i.left j.left j.right j.parts g1 in
-    let gr = given_right i.left j.left j.right j.parts g1 in
-    let q = j.first in
-    let t = expression_told leaves.Parameters s q.left q.value (given_left j.left q.left q.right q.parts gl) q.first in
-    let r : ToldList leaves.Parameters (q.value.0 ∷ [], q.value.1) i.value = subst (λ x. ToldList leaves.Parameters x i.value) q.second.1 (list_told leaves.Parameters several j.value i.value j.right gr j.second) in
-    subst (ToldResults s) (sym i.second.second.1) (results_of s q.value i.value t r)
 
 -- ---- maps
 
@@ -116,22 +103,6 @@ map_of names total b few t = record { small = λ h. t.grown.kept h; again = agai
         let moved_text = prints_as {b = map_text (map_with names b).0} whole (simp (append_assoc) refl) in
         subst (λ x. Prints true (map_text (map_with names b).0) (Map0 several (total + d)) x) (map_is nd ns d b) moved_text
 
-pub map_told : (several : Bool) (total : ℕ) (p : Map × ℕ) (f : List Tok) → Given f → Map0 several total f p → ToldMap p.0 total p.1
-map_told several total p f g h =
-    let i = h.second.second in
-    let j = i.first in
-    let a = j.second in
-    let r = a.second in
-    let g1 = given_right f h.left h.right h.parts g in
-    let g2 = given_right h.right h.second.left h.second.right h.second.parts g1 in
-    let g3 = given_left h.second.right i.left i.right i.parts g2 in
-    let gp = given_left i.left j.left j.right j.parts g3 in
-    let ga = given_right i.left j.left j.right j.parts g3 in
-    let gr = given_left a.right r.left r.right r.parts (given_right j.right a.left a.right a.parts ga) in
-    let t = results_told several (over j.value total) r.value r.left gr r.first in
-    let e : map_with j.value r.value ≡ p = sym r.second.1 ∙ sym i.second.second.1 in
-    subst (λ (x : Map × ℕ). ToldMap x.0 total x.1) e (map_of j.value total r.value (params_told j.left j.value gp j.first) t)
-
 -- ---- rows
 
 pub record ToldSetRows (s : State) (b : List Constraint × State) : Type 0 where
@@ -159,15 +130,6 @@ rows_of s m b t r = record {
         let y : Prints true (more_text row_text r.items) (Many NextRow (m.0, moved leaves.Parameters d m.1)) (b.0, moved leaves.Parameters d b.1) = r.again d b.1 room (grown_same b.1) q.2 in
         let e : row_text t.row ++ more_text row_text r.items ≡ listed row_text b.0 = ap (λ l. listed row_text l) (sym results) in
         parens (prints_as (seq x (more_joins row_text r.items) y) e)
-
-pub set_rows_told : (s : State) (b : List Constraint × State) (f : List Tok) → Given f → Rows s f b → ToldSetRows s b
-set_rows_told s b f g h =
-    let i = h.second in
-    let j = i.first in
-    let g1 = given_left h.right i.left i.right i.parts (given_right f h.left h.right h.parts g) in
-    let gl = given_left i.left j.left j.right j.parts g1 in
-    let gr = given_right i.left j.left j.right j.parts g1 in
-    subst (ToldSetRows s) (sym i.second.second.1) (rows_of s j.value i.value (row_told ([], s) j.value j.left gl j.first) (rows_told j.value i.value j.right gr j.second))
 
 -- ---- sets
 
@@ -202,19 +164,3 @@ set_of names total b few t = record { small = λ h. t.grown.kept h; again = agai
         let whole : Prints true _ (Set0 (total + d)) (set_with (scope_of nd ns) (b.0, moved leaves.Parameters d b.1)) = seq (keyword (codes "affine_set") refl refl) (λ s c. refl) (seq less_sign (λ s c. refl) (seq inner tt (giving (λ _. set_with (scope_of nd ns) (b.0, moved leaves.Parameters d b.1)) greater_sign))) in
         let moved_text = prints_as {b = set_head_text (set_with names b).0} whole (simp (append_assoc) refl) in
         subst (λ x. Prints true (set_head_text (set_with names b).0) (Set0 (total + d)) x) (set_is nd ns d b) moved_text
-
-pub set_told : (total : ℕ) (p : Set × ℕ) (f : List Tok) → Given f → Set0 total f p → ToldSet p.0 total p.1
-set_told total p f g h =
-    let i = h.second.second in
-    let j = i.first in
-    let a = j.second in
-    let r = a.second in
-    let g1 = given_right f h.left h.right h.parts g in
-    let g2 = given_right h.right h.second.left h.second.right h.second.parts g1 in
-    let g3 = given_left h.second.right i.left i.right i.parts g2 in
-    let gp = given_left i.left j.left j.right j.parts g3 in
-    let ga = given_right i.left j.left j.right j.parts g3 in
-    let gr = given_left a.right r.left r.right r.parts (given_right j.right a.left a.right a.parts ga) in
-    let t = set_rows_told (over j.value total) r.value r.left gr r.first in
-    let e : set_with j.value r.value ≡ p = sym r.second.1 ∙ sym i.second.second.1 in
-    subst (λ (x : Set × ℕ). ToldSet x.0 total x.1) e (set_of j.value total r.value (params_told j.left j.value gp j.first) t)

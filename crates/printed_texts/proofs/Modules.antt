@@ -18,9 +18,8 @@ use Rattle.affine_ast.specs.Nest.{nest}
 use Rattle.affine_ast.specs.Spelling.{name_text, listed, lines, line_text, arg_text, args_text, kind_text, range_text, pair_text, head_text, spelling}
 use Rattle.affine_ast.proofs.Spellings.{lines-append, lines-cons, lines-nil, statement-Return}
 use Rattle.affine_grammar.specs.declared.words.Alias.{Alias}
-use Rattle.affine_grammar.specs.declared.words.Body.{Body}
 use Rattle.affine_grammar.specs.Token.{Tok, sign, word, value, lined, with_line}
-use Rattle.affine_grammar.specs.GrammarFile.{RangeEnd, Range, ArgumentKind, Argument, NextArgument, Arguments, Statements, Region, FunctionBody, Function, AliasBody, AliasDefinition, ModuleOf, File}
+use Rattle.affine_grammar.specs.GrammarFile.{RangeEnd, Range, ArgumentKind, Argument, NextArgument, Arguments, Statements, Region, FunctionBody, Function, ModuleOf, File}
 use Rattle.printed_texts.specs.Nesting.{StatementsNest, ModuleNests}
 use Rattle.printed_texts.specs.Lines.{unlined_argument, AreSameButLines}
 pub use Rattle.printed_texts.specs.Writable.{KindFits, ArgumentFits, ArgumentsFit}
@@ -28,30 +27,9 @@ use Rattle.printed_texts.proofs.Pieces.{Are, parted, Joins, Cuts, join_cut, Prin
 use Rattle.printed_texts.proofs.Marks.{keyword, equals_sign, open_brace, close_brace, open_paren, close_paren, open_square, close_square, comma_sign, colon_sign, comma}
 use Rattle.printed_texts.proofs.Given.{Given, given_left, given_right, given_one, value_given, value_prints, function_given, function_prints}
 use Rattle.printed_texts.proofs.Lists.{more_text, more_joins}
-use Rattle.printed_texts.proofs.Maps.{map_told, set_told}
-use Rattle.printed_texts.proofs.Uses.{BodyTold, AliasesTold}
 use Rattle.printed_texts.proofs.Types.{InRange, signed_told, signed_again, memref_told, memref_again}
 use Rattle.printed_texts.proofs.Unlined.{SameStatements, same_append, append_nests, same_cons}
-use Rattle.printed_texts.proofs.Blocks.{Writes, writes_seq, writes_as, writes_blank, AllWhite, LinesPrints, ToldLines, statements_told, region_told, opening, closing, margin_cut, lined_some}
-
--- ---- aliases
-
-aliases_append : (aliases : List Alias) (a : Alias) → AliasesTold aliases → BodyTold a.body a.operands → AliasesTold (aliases ++ a ∷ [])
-aliases_append [] a t h = (h, tt)
-aliases_append (b ∷ aliases) a t h = (t.0, aliases_append aliases a t.1 h)
-
-alias_body_told : (p : Body × ℕ) (f : List Tok) → Given f → AliasBody f p → BodyTold p.0 p.1
-alias_body_told p f g (inl h) = subst (λ (x : Body × ℕ). BodyTold x.0 x.1) (sym h.second.1) (map_told true 0 h.value h.left (given_left f h.left h.right h.parts g) h.first)
-alias_body_told p f g (inr h) = subst (λ (x : Body × ℕ). BodyTold x.0 x.1) (sym h.second.1) (set_told 0 h.value h.left (given_left f h.left h.right h.parts g) h.first)
-
-pub aliases_told : (b c : List Alias) (f : List Tok) → Given f → AliasesTold b → Many AliasDefinition b f c → AliasesTold c
-aliases_told b c f g t (none _ _ p) = t
-aliases_told b c f g t (more _ d _ _ left right p i m) =
-    let gl = given_left f left right p g in
-    let e = i.second.second in
-    let g1 = given_right i.right i.second.left i.second.right i.second.parts (given_right left i.left i.right i.parts gl) in
-    let known : AliasesTold d = subst AliasesTold (sym e.second.1) (aliases_append b (record { name = i.value; body = e.value.0; operands = e.value.1 }) t (alias_body_told e.value e.left (given_left i.second.right e.left e.right e.parts g1) e.first)) in
-    aliases_told d c right (given_right f left right p g) known m
+use Rattle.printed_texts.proofs.Blocks.{Writes, writes_seq, writes_as, writes_blank, AllWhite, LinesPrints, ToldLines, opening, closing, margin_cut, lined_some}
 
 -- ---- arguments
 
@@ -329,29 +307,29 @@ pub record ToldFunction (m : Module) : Type 0 where
   pub after : ℕ
   pub told : ToldLines (Region [] 39) stmts 0 after
 
-function_told : (aliases : List Alias) (m : Module) (f : List Tok) → AliasesTold aliases → Given f → Function aliases f m → ToldFunction m
-function_told aliases m f known g h =
+-- the name and the arguments of a module of a given text
+pub record HasParts (m : Module) : Type 0 where
+  pub name : IsId m.name
+  pub args : ArgumentsFit m.args
+
+function_parts : (aliases : List Alias) (m : Module) (f : List Tok) → Given f → Function aliases f m → HasParts m
+function_parts aliases m f g h =
     let n = h.second in
     let a = n.second in
     let b = a.second in
     let g1 = given_right f h.left h.right h.parts g in
     let g2 = given_right h.right n.left n.right n.parts g1 in
-    let g3 = given_right n.right a.left a.right a.parts g2 in
-    let i = b.first.second in
-    let gb = given_left a.right b.left b.right b.parts g3 in
-    let gi = given_left b.first.right i.left i.right i.parts (given_right b.left b.first.left b.first.right b.first.parts gb) in
-    let j = i.first in
-    let t = statements_told 39 (Region aliases 39) aliases known (region_told aliases known 39) 0 j.value j.left (given_left i.left j.left j.right j.parts gi) j.first in
-    let e : b.value ≡ j.value.0 ++ returning j.second.value.0 ∷ [] = i.second.second.1 ∙ j.second.second.1 in
-    subst ToldFunction (sym b.second.1) (record {
+    subst HasParts (sym b.second.1) (record {
       name = function_given n.first.token n.value (given_one n.left n.first.token n.first.alone (given_left h.right n.left n.right n.parts g1)) n.first.accepted;
       args = arguments_told a.value a.left (given_left n.right a.left a.right a.parts g2) a.first;
-      stmts = j.value.0;
-      line = j.second.value.0;
-      body = e;
-      after = j.value.1;
-      told = t;
     })
+
+pub module_parts : (aliases : List Alias) (m : Module) (f : List Tok) → Given f → ModuleOf aliases f m → HasParts m
+module_parts aliases m f g (inr h) = function_parts aliases m f g h
+module_parts aliases m f g (inl h) =
+    let i = h.second.second in
+    let g2 = given_right h.right h.second.left h.second.right h.second.parts (given_right f h.left h.right h.parts g) in
+    subst HasParts (sym i.second.second.1) (function_parts aliases i.value i.left (given_left h.second.right i.left i.right i.parts g2) i.first)
 
 -- a module that tokens spell
 abbrev Same : Module → Module → Type 0
@@ -401,16 +379,3 @@ module_again m t n =
     let file : Writes false (codes "module" ++ (32 ∷ (codes "{\n  " ++ ((codes "func.func" ++ (32 ∷ ((64 ∷ m.name) ++ ((codes "(" ++ (listed arg_text m.args ++ codes ")")) ++ (32 ∷ (codes "{\n" ++ (lines four (nest m.body) ++ codes "  }"))))))) ++ codes "\n}\n")))) File (Same m) =
     record { pieces = wrapped.pieces; cut = wrapped.cut; spelled = λ us a. let y = wrapped.spelled us a in (y.0, (y.1.0, record { value = []; left = []; right = us; parts = refl; first = none [] [] refl; second = inl y.1.1 })) } in
     writes_as file (module_pieces m.name (listed arg_text m.args) (lines four (nest m.body)))
-
--- what a text spells, the printed spelling of it spells again
-pub module_told : (aliases : List Alias) (m : Module) (f : List Tok) → AliasesTold aliases → Given f → ModuleOf aliases f m → ToldFunction m
-module_told aliases m f known g (inr h) = function_told aliases m f known g h
-module_told aliases m f known g (inl h) =
-    let i = h.second.second in
-    let g2 = given_right h.right h.second.left h.second.right h.second.parts (given_right f h.left h.right h.parts g) in
-    subst ToldFunction (sym i.second.second.1) (function_told aliases i.value i.left known (given_left h.second.right i.left i.right i.parts g2) i.first)
-
-pub file_again : (m : Module) (f : List Tok) → Given f → File f m → ModuleNests m → Writes false (spelling m) File (AreSameButLines m)
-file_again m f g h n =
-    let known = aliases_told [] h.value h.left (given_left f h.left h.right h.parts g) tt h.first in
-    module_again m (module_told h.value m h.right known (given_right f h.left h.right h.parts g) h.second) n

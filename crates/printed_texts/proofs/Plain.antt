@@ -18,9 +18,7 @@ use Rattle.int_ops.specs.declared.operation.Op.{Op}
 use Rattle.int_ops.specs.declared.operation.Op.TheVariants as op
 use Rattle.int_ops.specs.declared.operation.CastKind.{CastKind}
 use Rattle.int_ops.specs.declared.operation.CastKind.TheVariants as cast
-use Rattle.affine_grammar.specs.declared.words.Alias.{Alias}
 use Rattle.affine_grammar.specs.declared.words.Action.TheVariants as action
-use Rattle.affine_grammar.specs.declared.words.Definition.{Definition}
 use Rattle.affine_grammar.specs.declared.words.Definition.TheVariants as definition
 use Rattle.affine_grammar.specs.Token.{Tok, value, definition_word, definition_of, action_word, action_of}
 use Rattle.affine_grammar.specs.GrammarFile.{Typed, Regions, Defined, Acted, Part, Stride}
@@ -29,8 +27,8 @@ pub use Rattle.printed_texts.specs.Writable.{StrideWritten}
 use Rattle.printed_texts.proofs.Pieces.{ends, Prints, seq, in_left, in_right, giving, nothing, loosen, blank_before, blank_behind}
 use Rattle.printed_texts.proofs.Marks.{keyword, word_piece, open_paren, close_paren, comma, colon}
 use Rattle.printed_texts.proofs.Given.{Given, IsWritten, given_left, given_right, given_one, value_given, value_prints}
-use Rattle.printed_texts.proofs.Uses.{AliasesTold, ToldUse, use_told, ToldSubscripts, subscripts_told, AllWritten, brackets_told, brackets_again}
-use Rattle.printed_texts.proofs.Types.{InRange, signed_told, signed_again, TypeFits, memref_told, memref_again, typed_again, scalar_again}
+use Rattle.printed_texts.proofs.Uses.{ToldUse, ToldSubscripts, AllWritten, brackets_again}
+use Rattle.printed_texts.proofs.Types.{InRange, signed_again, TypeFits, memref_told, memref_again, typed_again, scalar_again}
 
 -- ---- statements with a result
 
@@ -165,41 +163,6 @@ value_of f n g h = value_given h.token n (given_one f h.token h.alone g) h.accep
 pub typed_told : {A : Type 0} (make : MemrefType → A) (x : A) (f : List Tok) → Typed make f x → (ty : MemrefType) × (TypeFits ty × (x ≡ make ty))
 typed_told make x f h = (h.second.value, (memref_told h.second.value h.second.left h.second.first, h.second.second.1))
 
-abbrev Defines : Name → ℕ → What × ℕ → Type 0
-Defines r total p = ToldDefinition r p.0 total p.1
-
-pub definition_told : (aliases : List Alias) (total : ℕ) (r : Name) (d : Definition) (p : What × ℕ) (f : List Tok) → AliasesTold aliases → Given f → Defined aliases total r d f p → ToldDefinition r p.0 total p.1
-definition_told aliases total r (definition.Value c) p f a g h =
-    subst (Defines r total) (sym h.second.1) (value_definition r total c h.value.0 h.value.1 (use_told aliases true total h.value h.left a (given_left f h.left h.right h.parts g) h.first))
-definition_told aliases total r definition.Load p f a g h =
-    let i = h.second in
-    let gr = given_right f h.left h.right h.parts g in
-    let t = typed_told (λ ty. let x : What × ℕ = (what.Load r h.value i.value.0 ty, i.value.1) in x) p i.right i.second in
-    subst (Defines r total) (sym t.1.1) (load_definition r total h.value i.value.0 i.value.1 t.0 (value_of h.left h.value (given_left f h.left h.right h.parts g) h.first) (subscripts_told total i.value i.left (given_left h.right i.left i.right i.parts gr) i.first) t.1.0)
-definition_told aliases total r definition.RawLoad p f a g h =
-    let i = h.second in
-    let gr = given_right f h.left h.right h.parts g in
-    let t = typed_told (λ ty. let x : What × ℕ = (what.RawLoad r h.value i.value ty, total) in x) p i.right i.second in
-    subst (Defines r total) (sym t.1.1) (raw_load_definition r total h.value i.value t.0 (value_of h.left h.value (given_left f h.left h.right h.parts g) h.first) (brackets_told i.value i.left (given_left h.right i.left i.right i.parts gr) i.first) t.1.0)
-definition_told aliases total r definition.Constant p f a g h =
-    let i = h.second.second in
-    subst (Defines r total) (sym i.second.1) (constant_definition r total h.value i.value (signed_told h.value h.left h.first))
-definition_told aliases total r (definition.Binary o) p f a g h =
-    let i = h.second in
-    let j = i.second in
-    let k = j.second.second in
-    let g1 = given_right f h.left h.right h.parts g in
-    let g2 = given_right h.right i.left i.right i.parts g1 in
-    subst (Defines r total) (sym k.second.1) (binary_definition r total o h.value j.value k.value (value_of h.left h.value (given_left f h.left h.right h.parts g) h.first) (value_of j.left j.value (given_left i.right j.left j.right j.parts g2) j.first))
-definition_told aliases total r (definition.Cast c) p f a g h =
-    let j = h.second.second in
-    let k = j.second.second in
-    subst (Defines r total) (sym k.second.1) (cast_definition r total c h.value j.value k.value (value_of h.left h.value (given_left f h.left h.right h.parts g) h.first))
-definition_told aliases total r definition.Alloc p f a g h =
-    let i = h.second in
-    let t = typed_told (λ ty. let x : What × ℕ = (what.Alloc r ty, total) in x) p i.right i.second in
-    subst (Defines r total) (sym t.1.1) (alloc_definition r total t.0 t.1.0)
-
 -- ---- statements without a result
 
 -- a statement of a given text that has no region
@@ -241,14 +204,6 @@ if_word = blank_behind (word_piece (codes "affine.if") action_word action.If ref
 pub record ToldPart (m : Name) (at : Access) (total behind : ℕ) : Type 0 where
   pub name : IsWritten m
   pub subscripts : ToldSubscripts at total behind
-
-part_told : (total : ℕ) (p : Name × (Access × ℕ)) (f : List Tok) → Given f → Part total f p → ToldPart p.0 p.1.0 total p.1.1
-part_told total p f g h =
-    let i = h.second in
-    subst (λ (x : Name × (Access × ℕ)). ToldPart x.0 x.1.0 total x.1.1) (sym i.second.1) (record {
-      name = value_of h.left h.value (given_left f h.left h.right h.parts g) h.first;
-      subscripts = subscripts_told total i.value i.left (given_left h.right i.left i.right i.parts (given_right f h.left h.right h.parts g)) i.first;
-    })
 
 part_again : (m : Name) (at : Access) (total behind : ℕ) → ToldPart m at total behind → total ≤ 1048576 → UseNests at → Prints false (name_text m ++ subscripts_text at) (Part total) (m, (at, behind))
 unfolding subscripts_text
@@ -335,58 +290,3 @@ module _ (R : Regions) (total : ℕ) where
         let amount = seq (value_prints n wn) (λ r x. subst (λ l. ends l ≡ true) (sym (append_assoc (stride_text s) (codes " : " ++ (memref_text t ++ (codes ", " ++ (memref_text u ++ (codes ", " ++ memref_text v))))) r)) (stride_joins s _ refl)) (seq (stride_again s ws) (λ r x. refl) (seq colon tt types)) in
         seq start_word tt (seq (part_again a aa total n1 pa h k.0.0) tt (seq comma tt (seq (part_again b bb n1 n2 pb h1 k.0.1) tt (seq comma tt (seq (part_again c cc' n2 n3 pc h2 k.0.2) tt (seq comma tt amount))))));
   }
-
-abbrev Acts : Regions → ℕ → What × ℕ → Type 0
-Acts R total p = ToldAction R p.0 total p.1
-
--- a statement of these is told, whatever the regions of the printed spelling are
-pub store_told : (S R : Regions) (aliases : List Alias) (total : ℕ) (p : What × ℕ) (f : List Tok) → Given f → Acted S aliases total action.Store f p → ToldAction R p.0 total p.1
-store_told S R aliases total p f g h =
-    let i = h.second.second in
-    let j = i.second in
-    let g1 = given_right h.right h.second.left h.second.right h.second.parts (given_right f h.left h.right h.parts g) in
-    let g2 = given_right h.second.right i.left i.right i.parts g1 in
-    let t = typed_told (λ ty. let x : What × ℕ = (what.Store h.value i.value j.value.0 ty, j.value.1) in x) p j.right j.second in
-    subst (Acts R total) (sym t.1.1) (store_action R total h.value i.value j.value.0 j.value.1 t.0 (value_of h.left h.value (given_left f h.left h.right h.parts g) h.first) (value_of i.left i.value (given_left h.second.right i.left i.right i.parts g1) i.first) (subscripts_told total j.value j.left (given_left i.right j.left j.right j.parts g2) j.first) t.1.0)
-
-pub raw_store_told : (S R : Regions) (aliases : List Alias) (total : ℕ) (p : What × ℕ) (f : List Tok) → Given f → Acted S aliases total action.RawStore f p → ToldAction R p.0 total p.1
-raw_store_told S R aliases total p f g h =
-    let i = h.second.second in
-    let j = i.second in
-    let g1 = given_right h.right h.second.left h.second.right h.second.parts (given_right f h.left h.right h.parts g) in
-    let g2 = given_right h.second.right i.left i.right i.parts g1 in
-    let t = typed_told (λ ty. let x : What × ℕ = (what.RawStore h.value i.value j.value ty, total) in x) p j.right j.second in
-    subst (Acts R total) (sym t.1.1) (raw_store_action R total h.value i.value j.value t.0 (value_of h.left h.value (given_left f h.left h.right h.parts g) h.first) (value_of i.left i.value (given_left h.second.right i.left i.right i.parts g1) i.first) (brackets_told j.value j.left (given_left i.right j.left j.right j.parts g2) j.first) t.1.0)
-
-pub dealloc_told : (S R : Regions) (aliases : List Alias) (total : ℕ) (p : What × ℕ) (f : List Tok) → Given f → Acted S aliases total action.Dealloc f p → ToldAction R p.0 total p.1
-dealloc_told S R aliases total p f g h =
-    let t = typed_told (λ ty. let x : What × ℕ = (what.Dealloc h.value ty, total) in x) p h.right h.second in
-    subst (Acts R total) (sym t.1.1) (dealloc_action R total h.value t.0 (value_of h.left h.value (given_left f h.left h.right h.parts g) h.first) t.1.0)
-
-pub wait_told : (S R : Regions) (aliases : List Alias) (total : ℕ) (p : What × ℕ) (f : List Tok) → Given f → Acted S aliases total action.Wait f p → ToldAction R p.0 total p.1
-wait_told S R aliases total p f g h =
-    let i = h.second.second in
-    let g1 = given_right h.right h.second.left h.second.right h.second.parts (given_right f h.left h.right h.parts g) in
-    let t = typed_told (λ ty. let x : What × ℕ = (what.Wait h.value.0 h.value.1.0 i.value ty, h.value.1.1) in x) p i.right i.second in
-    subst (Acts R total) (sym t.1.1) (wait_action R total h.value.0 h.value.1.0 h.value.1.1 i.value t.0 (part_told total h.value h.left (given_left f h.left h.right h.parts g) h.first) (value_of i.left i.value (given_left h.second.right i.left i.right i.parts g1) i.first) t.1.0)
-
-pub start_told : (S R : Regions) (aliases : List Alias) (total : ℕ) (p : What × ℕ) (f : List Tok) → Given f → Acted S aliases total action.Start f p → ToldAction R p.0 total p.1
-start_told S R aliases total p f g h =
-    let b = h.second.second in
-    let c = b.second.second in
-    let n = c.second.second in
-    let s = n.second in
-    let t = s.second.second in
-    let u = t.second.second in
-    let v = u.second.second in
-    let g1 = given_right h.right h.second.left h.second.right h.second.parts (given_right f h.left h.right h.parts g) in
-    let g2 = given_right b.right b.second.left b.second.right b.second.parts (given_right h.second.right b.left b.right b.parts g1) in
-    let g3 = given_right c.right c.second.left c.second.right c.second.parts (given_right b.second.right c.left c.right c.parts g2) in
-    let g4 = given_right c.second.right n.left n.right n.parts g3 in
-    subst (Acts R total) (sym v.second.1) (start_action R total h.value.0 h.value.1.0 b.value.0 b.value.1.0 c.value.0 c.value.1.0 n.value s.value t.value u.value v.value h.value.1.1 b.value.1.1 c.value.1.1
-    (part_told total h.value h.left (given_left f h.left h.right h.parts g) h.first)
-    (part_told h.value.1.1 b.value b.left (given_left h.second.right b.left b.right b.parts g1) b.first)
-    (part_told b.value.1.1 c.value c.left (given_left b.second.right c.left c.right c.parts g2) c.first)
-    (value_of n.left n.value (given_left c.second.right n.left n.right n.parts g3) n.first)
-    (stride_told s.value s.left (given_left n.right s.left s.right s.parts g4) s.first)
-    (memref_told t.value t.left t.first) (memref_told u.value u.left u.first) (memref_told v.value v.left v.first))

@@ -22,6 +22,8 @@ use Rattle.affine_grammar.specs.Token.{Tok, value, sign}
 use Rattle.affine_grammar.specs.Grammar.{Operands}
 use Rattle.affine_grammar.specs.GrammarFile.{Regions, Region, TurnsOf, Defined, Part, Else, Acted, Statement, Statements, Function, AliasBody, AliasDefinition, ModuleOf}
 use Rattle.affine_grammar.specs.Spelling.{tokens_of, Spells}
+use Rattle.affine_ast.specs.Spelling.{spelling}
+use Rattle.printed_texts.specs.Lines.{AreSameButLines}
 use Rattle.printed_texts.specs.Nesting.{RowsNest, PlainNests, StatementsNest, ModuleNests}
 use Rattle.printed_texts.specs.Writable.{IsWritten, IsPositive, ConditionFits, PlainFits, StatementsFit, operands_in_plain, operands_in_nest, MayBeWritten}
 use Rattle.printed_texts.proofs.Given.{Given, given_left, given_right, given_one, value_given, limited_some}
@@ -31,8 +33,9 @@ use Rattle.printed_texts.proofs.Uses.{operands_told, brackets_told}
 use Rattle.printed_texts.proofs.Bounds.{step_told}
 use Rattle.printed_texts.proofs.Plain.{value_of, typed_told, stride_told}
 use Rattle.printed_texts.proofs.Blocks.{lined_some}
-use Rattle.printed_texts.proofs.Modules.{ToldFunction, returning, module_told, aliases_told}
+use Rattle.printed_texts.proofs.Modules.{HasParts, returning, module_parts}
 use Rattle.printed_texts.proofs.Whole.{given_text}
+use Rattle.printed_texts.proofs.Writing.{written_spells}
 use Rattle.printed_texts.proofs.Unnested.{what_of, put_plain}
 use Rattle.printed_texts.proofs.Spelt.{use_spelt, SpeltSubscripts, subscripts_spelt, SpeltBound, bound_spelt, SpeltSet, some_set_spelt, condition_spelt, map_spelt, set_spelt, BodySpelt, AliasesSpelt}
 
@@ -460,7 +463,7 @@ module_spelt aliases m f known g (inl h) =
     let g2 = given_right h.right h.second.left h.second.right h.second.parts (given_right f h.left h.right h.parts g) in
     subst (λ (x : Module). SpeltBody x.body) (sym i.second.second.1) (function_spelt aliases i.value i.left known (given_left h.second.right i.left i.right i.parts g2) i.first)
 
-written_of : (m : Module) → ToldFunction m → SpeltBody m.body → ModuleNests m → MayBeWritten m
+written_of : (m : Module) → HasParts m → SpeltBody m.body → ModuleNests m → MayBeWritten m
 written_of m t b n =
     let s = b.spelt in
     let last : nest (returning b.line ∷ []) ≡ Does b.line Return Nothing = nest-cons (returning b.line) [] ∙ ap (λ r. put_what what.Return b.line r) nest-nil ∙ put_plain Return b.line Nothing in
@@ -478,6 +481,10 @@ spelt_written source m short s n =
     let f = tokens_of source s.tokens in
     let gl = given_left f h.left h.right h.parts given in
     let gr = given_right f h.left h.right h.parts given in
-    let told = module_told h.value m h.right (aliases_told [] h.value h.left gl tt h.first) gr h.second in
+    let parts = module_parts h.value m h.right gr h.second in
     let body = module_spelt h.value m h.right (aliases_spelt [] h.value h.left gl tt h.first) gr h.second in
-    written_of m told body n
+    written_of m parts body n
+
+-- so its printed spelling spells one that is the same but for its lines
+pub spelled_again : (source : List ℕ) (m : Module) → length source < 2 ^ 64 → Spells source m → ModuleNests m → (n : Module) × (AreSameButLines m n × Spells (spelling m) n)
+spelled_again source m short s n = written_spells m (spelt_written source m short s n) [] (λ i d less. absurd (omega (arith, less)))

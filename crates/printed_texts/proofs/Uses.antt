@@ -1,5 +1,5 @@
 -- Uses of maps and sets, and subscripts, are spelled again.
-use Rattle.std.proofs.Common.{◌≡◌, ℕ, zero, suc, ◌+◌, ◌≤◌, ◌&&◌, ◌||◌, nat_le, not, Bool, true, false, if◌then◌else◌, List, [], ◌∷◌, ◌++◌, length, take, drop, Option, Some, None, codes, bytes_eq, refl, sym, ap, ◌∙◌, subst, append_assoc, append-nil, inl, inr, arith}
+use Rattle.std.proofs.Common.{◌≡◌, ℕ, zero, suc, ◌+◌, ◌≤◌, ◌&&◌, nat_le, not, Bool, true, false, if◌then◌else◌, List, [], ◌∷◌, ◌++◌, length, take, drop, Some, None, codes, refl, sym, ap, ◌∙◌, subst, append_assoc, append-nil, inl, inr, arith}
 use Rattle.std.proofs.lemmas.Bool.Decides.{nat_tests}
 use Rattle.std.proofs.Math.Seq.{take-append_seam, drop-append_seam}
 use Rattle.readers.specs.Languages.{Lang, Nothing, Both, Many, none, more, Linked, Times, Exactly, Enclosed, Listed}
@@ -10,23 +10,20 @@ use Rattle.affine_ast.specs.declared.name.Name.{Name}
 use Rattle.affine_ast.specs.declared.types.Access.{Access}
 use Rattle.affine_ast.specs.Spelling.{expression_text, name_text, names_text, listed, symbol_names_text, operands_text, use_text, set_text, opening_text, results_text, rows_text, subscripts_text}
 use Rattle.affine_grammar.specs.declared.words.State.{State}
-use Rattle.affine_grammar.specs.declared.words.Alias.{Alias}
-use Rattle.affine_grammar.specs.declared.words.Body.{Body}
-use Rattle.affine_grammar.specs.declared.words.Body.TheVariants as body
 use Rattle.affine_grammar.specs.declared.words.Leaves.TheVariants as leaves
-use Rattle.affine_grammar.specs.Token.{Tok, class, sign, alias_in, map_body, map_meant, set_body, set_meant, brings}
+use Rattle.affine_grammar.specs.Token.{Tok, sign, brings}
 use Rattle.affine_grammar.specs.Grammar as grammar
 use Rattle.affine_grammar.specs.Grammar.{Result, NextResult, Map0, Set0, OneValue, Values, SymbolValues, Operands, SomeMap, SomeSet, Use, no_values, access_with, Subscripts, NextValue, Brackets}
 use Rattle.printed_texts.specs.Nesting.{AllNest, RowsNest, UseNests}
 pub use Rattle.printed_texts.specs.Writable.{AllWritten}
 use Rattle.printed_texts.proofs.Pieces.{Prints, seq, prints_as, in_left, in_right, giving, nothing, no_item, item_then}
 use Rattle.printed_texts.proofs.Marks.{open_square, close_square, comma}
-use Rattle.printed_texts.proofs.Given.{Given, IsWritten, given_left, given_right, given_one, value_given, value_prints, of_alias_some}
+use Rattle.printed_texts.proofs.Given.{Given, IsWritten, given_left, given_right, given_one, value_given, value_prints}
 use Rattle.printed_texts.proofs.Places.{parens}
 use Rattle.printed_texts.proofs.States.{grown_same, printed_leaves, moved, Room}
-use Rattle.printed_texts.proofs.Expressions.{ToldExpression, expression_told}
-use Rattle.printed_texts.proofs.Lists.{more_text, more_joins, ToldList, list_told}
-use Rattle.printed_texts.proofs.Maps.{map_text, FitsSeveral, ToldMap, map_told, set_head_text, ToldSet, set_told}
+use Rattle.printed_texts.proofs.Expressions.{ToldExpression}
+use Rattle.printed_texts.proofs.Lists.{more_text, more_joins, ToldList}
+use Rattle.printed_texts.proofs.Maps.{map_text, FitsSeveral, ToldMap, set_head_text, ToldSet}
 
 -- ---- names
 
@@ -153,23 +150,6 @@ operands_again dims syms vs t =
 
 -- ---- aliases
 
--- what an alias stands for is spelled again
-abbrev pub BodyTold : Body → ℕ → Type 0
-BodyTold (body.Map m) n = ToldMap m 0 n
-BodyTold (body.Set s) n = ToldSet s 0 n
-
-abbrev pub AliasesTold : List Alias → Type 0
-AliasesTold [] = Unit {0}
-AliasesTold (a ∷ aliases) = BodyTold a.body a.operands × AliasesTold aliases
-
-alias_told : (w : List ℕ) (aliases : List Alias) (a : Alias) → AliasesTold aliases → alias_in w aliases ≡ Some a → BodyTold a.body a.operands
-alias_told w [] a h e = absurd cc
-alias_told w (b ∷ aliases) a h e = by_test (alias_told w aliases a h.1) (bytes_eq b.name w) e
-  where
-    by_test : (alias_in w aliases ≡ Some a → BodyTold a.body a.operands) → (v : Bool) → (if v then Some b else alias_in w aliases) ≡ Some a → BodyTold a.body a.operands
-    by_test ih true q = let r : b ≡ a = cc in subst (λ (x : Alias). BodyTold x.body x.operands) r h.0
-    by_test ih false q = ih q
-
 pub brings_some : {A : Type 0} (counted : Bool) (total : ℕ) (x : A) (p : A × ℕ) → counted ≡ true → brings counted total x ≡ Some p → (total ≤ 1048576) × ((x, total) ≡ p)
 brings_some counted total x p c h = by_test (nat_le total 1048576) refl (subst (λ b. (if b && not (nat_le total 1048576) then None else Some (x, total)) ≡ Some p) c h)
   where
@@ -206,60 +186,12 @@ plain_map m total behind t = record {
       (subst (λ k. Prints true (map_text m) (Map0 several (total + 0)) (m, k)) (plus_zero behind) (t.again several c 0 (omega (arith, h)) n));
 }
 
-alias_used : (m : Map) (total ops : ℕ) → total + ops ≤ 1048576 → ToldMap m 0 ops → UsedMap m total (total + ops)
-alias_used m total ops l t = record {
-  small = λ h. l;
-  again = λ several c h n. subst (λ k. Prints true (map_text m) (Map0 several k) (m, total + ops)) (zero_plus total)
-      (subst (λ k. Prints true (map_text m) (Map0 several (0 + total)) (m, k)) (plus_comm ops total) (t.again several c total (omega (arith, l)) n));
-}
-
-map_body_told : (several : Bool) (total ops : ℕ) (b : Body) (p : Map × ℕ) → map_body true several (total + ops) b ≡ Some p → BodyTold b ops → UsedMap p.0 total p.1
-map_body_told several total ops (body.Set s) p h t = absurd cc
-map_body_told several total ops (body.Map m) p h t = by_test (several || nat_le (length m.results) 1) h
-  where
-    by_test : (v : Bool) → (if v then brings true (total + ops) m else None) ≡ Some p → UsedMap p.0 total p.1
-    by_test true q = let i = brings_some true (total + ops) m p refl q in subst (λ (x : Map × ℕ). UsedMap x.0 total x.1) i.1 (alias_used m total ops i.0 t)
-    by_test false q = absurd cc
-
-map_meant_told : (several : Bool) (total : ℕ) (w : List ℕ) (aliases : List Alias) (o : Option Alias) (p : Map × ℕ) → AliasesTold aliases → alias_in w aliases ≡ o → map_meant true several total o ≡ Some p → UsedMap p.0 total p.1
-map_meant_told several total w aliases None p t e h = absurd cc
-map_meant_told several total w aliases (Some a) p t e h = map_body_told several total a.operands a.body p h (alias_told w aliases a t e)
-
-pub some_map_told : (aliases : List Alias) (several : Bool) (total : ℕ) (p : Map × ℕ) (f : List Tok) → AliasesTold aliases → Given f → SomeMap aliases several total f p → UsedMap p.0 total p.1
-some_map_told aliases several total p f t g (inr h) = plain_map p.0 total p.1 (map_told several total p f g h)
-some_map_told aliases several total p f t g (inl h) =
-    let i = given_one f h.token h.alone g in
-    let w = of_alias_some (λ w. map_meant h.token.counted several total (alias_in w aliases)) p (class h.token) h.accepted in
-    map_meant_told several total w.0 aliases (alias_in w.0 aliases) p t refl (subst (λ b. map_meant b several total (alias_in w.0 aliases) ≡ Some p) i.counted w.1.1)
-
 pub plain_set : (m : Set) (total behind : ℕ) → ToldSet m total behind → UsedSet m total behind
 plain_set m total behind t = record {
   small = t.small;
   again = λ h n. subst (λ k. Prints true (set_head_text m) (Set0 k) (m, behind)) (plus_zero total)
       (subst (λ k. Prints true (set_head_text m) (Set0 (total + 0)) (m, k)) (plus_zero behind) (t.again 0 (omega (arith, h)) n));
 }
-
-alias_set_used : (m : Set) (total ops : ℕ) → total + ops ≤ 1048576 → ToldSet m 0 ops → UsedSet m total (total + ops)
-alias_set_used m total ops l t = record {
-  small = λ h. l;
-  again = λ h n. subst (λ k. Prints true (set_head_text m) (Set0 k) (m, total + ops)) (zero_plus total)
-      (subst (λ k. Prints true (set_head_text m) (Set0 (0 + total)) (m, k)) (plus_comm ops total) (t.again total (omega (arith, l)) n));
-}
-
-set_body_told : (total ops : ℕ) (b : Body) (p : Set × ℕ) → set_body true (total + ops) b ≡ Some p → BodyTold b ops → UsedSet p.0 total p.1
-set_body_told total ops (body.Map m) p h t = absurd cc
-set_body_told total ops (body.Set s) p h t = let i = brings_some true (total + ops) s p refl h in subst (λ (x : Set × ℕ). UsedSet x.0 total x.1) i.1 (alias_set_used s total ops i.0 t)
-
-set_meant_told : (total : ℕ) (w : List ℕ) (aliases : List Alias) (o : Option Alias) (p : Set × ℕ) → AliasesTold aliases → alias_in w aliases ≡ o → set_meant true total o ≡ Some p → UsedSet p.0 total p.1
-set_meant_told total w aliases None p t e h = absurd cc
-set_meant_told total w aliases (Some a) p t e h = set_body_told total a.operands a.body p h (alias_told w aliases a t e)
-
-pub some_set_told : (aliases : List Alias) (total : ℕ) (p : Set × ℕ) (f : List Tok) → AliasesTold aliases → Given f → SomeSet aliases total f p → UsedSet p.0 total p.1
-some_set_told aliases total p f t g (inr h) = plain_set p.0 total p.1 (set_told total p f g h)
-some_set_told aliases total p f t g (inl h) =
-    let i = given_one f h.token h.alone g in
-    let w = of_alias_some (λ w. set_meant h.token.counted total (alias_in w aliases)) p (class h.token) h.accepted in
-    set_meant_told total w.0 aliases (alias_in w.0 aliases) p t refl (subst (λ b. set_meant b total (alias_in w.0 aliases) ≡ Some p) i.counted w.1.1)
 
 -- ---- uses
 
@@ -276,13 +208,6 @@ use_of total p vs m o = record {
       let y = operands_again p.0.dims p.0.syms vs o in
       prints_as (seq x (λ r d. refl) (giving (λ (ws : List Name). let q : Access × ℕ = (record { map = p.0; operands = ws }, p.1) in q) y)) (append_assoc (opening_text (codes "affine_map<") p.0.dims p.0.syms) (results_text p.0.results) (operands_text p.0.dims vs));
 }
-
-pub use_told : (aliases : List Alias) (several : Bool) (total : ℕ) (p : Access × ℕ) (f : List Tok) → AliasesTold aliases → Given f → Use aliases several total f p → ToldUse p.0 total p.1
-use_told aliases several total p f t g h =
-    let i = h.second in
-    let m = some_map_told aliases several total h.value h.left t (given_left f h.left h.right h.parts g) h.first in
-    let o = operands_told h.value.0.dims h.value.0.syms i.value i.left (given_left h.right i.left i.right i.parts (given_right f h.left h.right h.parts g)) i.first in
-    subst (λ (x : Access × ℕ). ToldUse x.0 total x.1) (sym i.second.1) (use_of total h.value i.value m o)
 
 -- a set with its operands
 pub set_use_again : (total behind : ℕ) (m : Set) (vs : List Name) → UsedSet m total behind → ToldOperands m.dims m.syms vs → behind ≤ 1048576 → RowsNest m.rows
@@ -321,27 +246,6 @@ subscripts_of total p b t r = record { small = λ h. r.grown.kept (t.grown.kept 
         subst (λ s. Prints true (more_text (expression_text S) r.items) (Many (NextResult leaves.Values true) (p.0 ∷ [], p.1)) (b.0, s)) (same_state b.1) (subst (λ s. Prints true (more_text (expression_text S) r.items) (Many (NextResult leaves.Values true) (p.0 ∷ [], s)) (b.0, moved leaves.Values 0 b.1)) (same_state p.1) (r.again true (inl refl) 0 b.1 room (grown_same b.1) m.1)) in
         let e : expression_text S p.0 ++ more_text (expression_text S) r.items ≡ listed (expression_text S) b.0 = ap (λ l. listed (expression_text S) l) (sym r.items_are) in
         seq open_square tt (giving access_with (in_right (seq (prints_as (seq x (more_joins (expression_text S) r.items) y) e) (λ s c. refl) (giving (λ _. b) close_square))))
-
--- the results of subscripts, with the sign that closes them
-abbrev SubscriptList : ℕ → Lang Tok (List Expr × State)
-SubscriptList total = Listed (sign 93) ([], no_values total) (Both (Result leaves.Values ([], no_values total)) (Many (NextResult leaves.Values true)))
-
-subscript_list_told : (total : ℕ) (b : List Expr × State) (f : List Tok) → Given f → SubscriptList total f b → ToldSubscripts (access_with b).0 total (access_with b).1
-subscript_list_told total b f g (inl h) = subst (λ x. ToldSubscripts (access_with x).0 total (access_with x).1) (sym h.second.1) (no_subscripts total)
-subscript_list_told total b f g (inr h) =
-    let j = h.first in
-    let q = j.first in
-    let g1 = given_left f h.left h.right h.parts g in
-    let gl = given_left h.left j.left j.right j.parts g1 in
-    let gr = given_right h.left j.left j.right j.parts g1 in
-    let t = expression_told leaves.Values (no_values total) q.left q.value (given_left j.left q.left q.right q.parts gl) q.first in
-    let r : ToldList leaves.Values (q.value.0 ∷ [], q.value.1) h.value = subst (λ x. ToldList leaves.Values x h.value) q.second.1 (list_told leaves.Values true j.value h.value j.right gr j.second) in
-    subst (λ x. ToldSubscripts (access_with x).0 total (access_with x).1) (sym h.second.second.1) (subscripts_of total q.value h.value t r)
-
-pub subscripts_told : (total : ℕ) (p : Access × ℕ) (f : List Tok) → Given f → Subscripts total f p → ToldSubscripts p.0 total p.1
-subscripts_told total p f g h =
-    let i = h.second in
-    subst (λ (x : Access × ℕ). ToldSubscripts x.0 total x.1) (sym i.second.1) (subscript_list_told total i.value i.left (given_left h.right i.left i.right i.parts (given_right f h.left h.right h.parts g)) i.first)
 
 -- ---- the names of a raw access
 

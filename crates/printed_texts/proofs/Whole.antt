@@ -17,7 +17,7 @@ use Rattle.printed_texts.proofs.Pieces.{tok, Are}
 use Rattle.printed_texts.proofs.Given.{HasNameForm, AllGiven, Given}
 use Rattle.printed_texts.proofs.Blocks.{Writes}
 use Rattle.printed_texts.proofs.Comments.{IsGap, cut_behind}
-use Rattle.printed_texts.proofs.Modules.{ToldFunction, module_again, file_again}
+use Rattle.printed_texts.proofs.Modules.{ToldFunction, module_again}
 
 -- ---- the tokens of a given text
 
@@ -114,19 +114,8 @@ printed_cut m w = subst (λ b. AreCut (after_word []) b w.pieces) (append-nil (s
     nothing_left : AreCut (after_word []) [] []
     nothing_left = cut_nothing (after_word [])
 
-printed_spells : (m : Module) → Writes false (spelling m) File (AreSameButLines m) → (n : Module) × (AreSameButLines m n × Spells (spelling m) n)
-printed_spells m w = cut_spells m (spelling m) w (printed_cut m w)
-
 -- Behind lines of comments it does too.
 pub told_spells_behind : (front : List ℕ) (m : Module) → IsGap front → ToldFunction m → ModuleNests m → (n : Module) × (AreSameButLines m n × Spells (front ++ spelling m) n)
 told_spells_behind front m g t n =
     let w = module_again m t n in
     cut_spells m (front ++ spelling m) w (cut_behind front (spelling m) w.pieces g (printed_cut m w))
-
--- Where the parts of a module are told, its printed spelling spells one that is the same but for its lines.
-pub told_spells : (m : Module) → ToldFunction m → ModuleNests m → (n : Module) × (AreSameButLines m n × Spells (spelling m) n)
-told_spells m t n = printed_spells m (module_again m t n)
-
--- Where a text spells a module, its printed spelling spells one that is the same but for its lines.
-pub spelled_again : (source : List ℕ) (m : Module) → length source < 2 ^ 64 → Spells source m → ModuleNests m → (n : Module) × (AreSameButLines m n × Spells (spelling m) n)
-spelled_again source m l h n = printed_spells m (file_again m (tokens_of source h.tokens) (given_text source h.tokens h.end l h.lexed) h.spelled n)

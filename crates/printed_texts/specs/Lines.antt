@@ -8,7 +8,8 @@ use Rattle.affine_ast.specs.Nest.{Nest, Nothing, Loop, Branch, Does, nest}
 abbrev pub unlined : Nest → Nest
 unlined Nothing = Nothing
 unlined (Loop line v lower upper s body rest) = Loop 0 v lower upper s (unlined body) (unlined rest)
-unlined (Branch line set names first has other rest) = Branch 0 set names (unlined first) has (unlined other) (unlined rest)
+unlined (Branch line set names first has other rest) =
+    Branch 0 set names (unlined first) has (unlined other) (unlined rest)
 unlined (Does line p rest) = Does 0 p (unlined rest)
 
 -- an argument without its line

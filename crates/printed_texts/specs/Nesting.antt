@@ -80,8 +80,10 @@ PlainNests Return = Unit {0}
 -- each expression of the statements does
 abbrev pub StatementsNest : Nest → Type 0
 StatementsNest Nothing = Unit {0}
-StatementsNest (Loop line v lower upper s body rest) = BoundNests lower × BoundNests upper × StatementsNest body × StatementsNest rest
-StatementsNest (Branch line set names first has other rest) = RowsNest set.rows × StatementsNest first × StatementsNest other × StatementsNest rest
+StatementsNest (Loop line v lower upper s body rest) =
+    BoundNests lower × BoundNests upper × StatementsNest body × StatementsNest rest
+StatementsNest (Branch line set names first has other rest) =
+    RowsNest set.rows × StatementsNest first × StatementsNest other × StatementsNest rest
 StatementsNest (Does line p rest) = PlainNests p × StatementsNest rest
 
 -- and each expression of the module

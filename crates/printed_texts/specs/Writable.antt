@@ -104,7 +104,8 @@ ExpressionsFit dims syms (e ∷ es) = ExpressionFits dims syms e × ExpressionsF
 
 abbrev pub RowsFit : ℕ → ℕ → List Constraint → Type 0
 RowsFit dims syms [] = Unit {0}
-RowsFit dims syms (row ∷ rows) = ExpressionFits dims syms row.left × ExpressionFits dims syms row.right × RowsFit dims syms rows
+RowsFit dims syms (row ∷ rows) =
+    ExpressionFits dims syms row.left × ExpressionFits dims syms row.right × RowsFit dims syms rows
 
 -- how many operands expressions have
 abbrev pub operands_in : List Expr → ℕ
@@ -138,8 +139,8 @@ pub record ConditionFits (set : Set) (names : List Name) : Type 0 where
   pub rows : RowsFit set.dims set.syms set.rows
   pub operands : NamesFit set.dims set.syms names
 
--- Dimensions and symbols appear in the order of their numbers: behind so many of each, an operand is one of these or the next.
--- The last two numbers say how many there are then.
+-- Dimensions and symbols appear in the order of their numbers: behind so many of each, an operand is one of these or the
+-- next. The last two numbers say how many there are then.
 abbrev pub Appear : ℕ → ℕ → List Operand → ℕ → ℕ → Type 0
 Appear n k [] m l = (n ≡ m) × (k ≡ l)
 Appear n k (Dimension i ∷ xs) m l = ((i < n) × Appear n k xs m l) ⊎ ((i ≡ n) × Appear (suc n) k xs m l)
@@ -148,13 +149,15 @@ Appear n k (Integer z ∷ xs) m l = InRange z × Appear n k xs m l
 
 -- no name stands twice
 abbrev pub AreApart : List Name → Type 0
-AreApart names = (i j : ℕ) (a b : Name) → slice_get names i ≡ Some a → slice_get names j ≡ Some b → a.text ≡ b.text → i ≡ j
+AreApart names =
+    (i j : ℕ) (a b : Name) → slice_get names i ≡ Some a → slice_get names j ≡ Some b → a.text ≡ b.text → i ≡ j
 
 abbrev pub AllWithin : List Expr → Type 0
 AllWithin [] = Unit {0}
 AllWithin (e ∷ es) = IsWithin e × AllWithin es
 
--- Subscripts: a text has the values themselves, so a map of subscripts numbers its dimensions and its symbols by first appearance.
+-- Subscripts: a text has the values themselves, so a map of subscripts numbers its dimensions and its symbols by first
+-- appearance.
 pub record SubscriptsFit (at : Access) : Type 0 where
   pub most : length at.map.results ≤ 8
   pub within : AllWithin at.map.results
@@ -192,7 +195,8 @@ PlainFits (Cast r kind x from to) = IsWritten r × IsWritten x
 PlainFits (Alloc r ty) = IsWritten r × TypeFits ty
 PlainFits (Dealloc m ty) = IsWritten m × TypeFits ty
 PlainFits (Start a aa b bb t ta n stride types) =
-    (IsWritten a × SubscriptsFit aa) × (IsWritten b × SubscriptsFit bb) × (IsWritten t × SubscriptsFit ta) × IsWritten n × StrideWritten stride × ThreeFit types
+    (IsWritten a × SubscriptsFit aa) × (IsWritten b × SubscriptsFit bb) × (IsWritten t × SubscriptsFit ta) × IsWritten n
+    × StrideWritten stride × ThreeFit types
 PlainFits (Wait t at n ty) = IsWritten t × SubscriptsFit at × IsWritten n × TypeFits ty
 PlainFits Return = ⊥
 
@@ -201,7 +205,8 @@ abbrev pub StatementsFit : ℕ → Nest → Type 0
 StatementsFit left Nothing = Unit {0}
 StatementsFit zero (Loop line v lower upper s body rest) = ⊥
 StatementsFit (suc left) (Loop line v lower upper s body rest) =
-    IsWritten v × BoundFits lower × BoundFits upper × IsPositive s × StatementsFit left body × StatementsFit (suc left) rest
+    IsWritten v × BoundFits lower × BoundFits upper × IsPositive s
+    × StatementsFit left body × StatementsFit (suc left) rest
 StatementsFit zero (Branch line set names first has other rest) = ⊥
 StatementsFit (suc left) (Branch line set names first has other rest) =
     ConditionFits set names × StatementsFit left first × StatementsFit left other × StatementsFit (suc left) rest
@@ -233,8 +238,10 @@ operands_in_plain Return = 0
 
 abbrev pub operands_in_nest : Nest → ℕ
 operands_in_nest Nothing = 0
-operands_in_nest (Loop line v lower upper s body rest) = operands_in_bound lower + (operands_in_bound upper + (operands_in_nest body + operands_in_nest rest))
-operands_in_nest (Branch line set names first has other rest) = operands_in_rows set.rows + (operands_in_nest first + (operands_in_nest other + operands_in_nest rest))
+operands_in_nest (Loop line v lower upper s body rest) =
+    operands_in_bound lower + (operands_in_bound upper + (operands_in_nest body + operands_in_nest rest))
+operands_in_nest (Branch line set names first has other rest) =
+    operands_in_rows set.rows + (operands_in_nest first + (operands_in_nest other + operands_in_nest rest))
 operands_in_nest (Does line p rest) = operands_in_plain p + operands_in_nest rest
 
 -- ---- modules
@@ -253,8 +260,8 @@ abbrev pub ArgumentsFit : List Arg → Type 0
 ArgumentsFit [] = Unit {0}
 ArgumentsFit (a ∷ args) = ArgumentFits a × ArgumentsFit args
 
--- A module that may be written: names are names of the grammar, numbers are in their ranges, and the limits of the grammar are met.
--- Its body is statements and then its `return`, with at most 39 regions inside one another and 1,048,576 operands.
+-- A module that may be written: names are names of the grammar, numbers are in their ranges, and the limits of the grammar
+-- are met. Its body is statements and then its `return`, with at most 39 regions inside one another and 1,048,576 operands.
 pub record MayBeWritten (m : Module) : Type 0 where
   pub name : IsId m.name
   pub args : ArgumentsFit m.args

@@ -9,12 +9,13 @@ ghost use Rattle.printed_texts.specs.Nesting.{ModuleNests};
 ghost use Rattle.printed_texts.specs.Writable.{MayBeWritten};
 ghost use Rattle.std.specs.Prelude.{◌≡◌, ◌<◌, ◌^◌, ◌++◌, ℕ, List, length, All};
 
-/// The printed text of every module that may be written spells it, with the lines of its own and behind any lines of comments:
-/// another module, the same but for lines.
+/// The printed text of every module that may be written spells it, with the lines of its own and behind any
+/// lines of comments: another module, the same but for lines.
 ///
-/// `MayBeWritten` speaks of the module alone: names are names of the grammar, numbers are in their ranges, and the limits of the
-/// grammar are met in the printed spelling. A pass that makes modules shows this of them, and nothing about texts. Each module that
-/// a text spells may be written, but for a negated 0 under the nesting limit, which `ModuleNests` leaves out.
+/// `MayBeWritten` speaks of the module alone: names are names of the grammar, numbers are in their ranges, and
+/// the limits of the grammar are met in the printed spelling. A pass that makes modules shows this of them, and
+/// nothing about texts. Each module that a text spells may be written, but for a negated 0 under the nesting
+/// limit, which `ModuleNests` leaves out.
 pub fn written_texts_spell()
     ensures given { (source : List ℕ) (m : Module) → length source < 2 ^ 64 → Spells source m → ModuleNests m → MayBeWritten m }
     ensures spelled { (m : Module) (comments : List (List ℕ)) → MayBeWritten m → All AreOnOneLine comments → (n : Module) × (AreSameButLines m n × Spells (comment_lines comments ++ spelling m) n) }

@@ -19,7 +19,7 @@ use Rattle.staged_rules.proofs.Forms.{first_form}
 use Rattle.staged_rules.proofs.Planned.{size_fits}
 use Rattle.staged_texts.proofs.Statements.{AreArgumentsWritten}
 use Rattle.staged_texts.proofs.Named.{arguments_written}
-use Rattle.staged_texts.proofs.Whole.{input_told}
+use Rattle.staged_texts.proofs.Whole.{input_parts}
 
 -- what a report says of a placement: its memref's name is written, and its window has at most so many elements
 pub record IsReported (p : Placement) : Type 0 where
@@ -50,5 +50,5 @@ all_reported (p ∷ ps) h = all_cons IsReported p ps (record { name = h.0; small
 
 pub placements_reported : (source : List ℕ) (input : Module) (output : Staged) → length source < 2 ^ 64 → Spells source input → IsStagedBy input output → All IsReported output.placements
 placements_reported source input output short s by =
-    let t = (input_told source input short s).0 in
+    let t = (input_parts source input short s).0 in
     all_reported output.placements (subst AreReported (sym by.placements) (first_reported input by.looped by.form by.valid (arguments_written input.args t.args)))

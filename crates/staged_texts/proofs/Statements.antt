@@ -1,5 +1,5 @@
 -- The statements of the template may be written.
-use Rattle.std.proofs.Common.{◌≡◌, ℕ, ◌+◌, ◌*◌, ◌≤◌, ℤ, pos, negsuc, Bool, true, false, List, [], ◌∷◌, ◌++◌, length, map, refl, sym, ap, ◌∙◌, subst, arith}
+use Rattle.std.proofs.Common.{◌≡◌, ℕ, ◌+◌, ◌*◌, ◌≤◌, ℤ, pos, negsuc, Bool, true, false, List, [], ◌∷◌, ◌++◌, length, map, refl, sym, ◌∙◌, subst, arith}
 use Rattle.std.specs.Prelude.{Option, Some, None, All, if◌then◌else◌}
 use Rattle.std.proofs.lemmas.Int.{ints}
 use Rattle.std.proofs.lemmas.List.{append_assoc, get_or_append_left, length-append}
@@ -11,8 +11,7 @@ use Rattle.affine_ast.specs.declared.stmt.What.{What}
 use Rattle.affine_ast.specs.declared.types.Access.{Access}
 use Rattle.affine_ast.specs.declared.types.Bound.TheVariants.{Int}
 use Rattle.affine_ast.specs.declared.types.MemrefType.{MemrefType}
-use Rattle.affine_ast.specs.Nest.{Plain, Load, Store, Constant, Binary, Alloc, Dealloc, Nothing, put_what, nest}
-use Rattle.affine_ast.proofs.Nests.{nest-nil, nest-cons, nest-append, put-For}
+use Rattle.affine_ast.specs.Nest.{Load, Store, Constant, Binary, Alloc, Dealloc}
 use Rattle.copy_emit.specs.Template.{Staged, FirstLoop, made, copy_in, copy_out, before, after, slow_type, window_type, at_value, behind_place, in_half, staged_of, redirect_load, redirect_store, redirect, redirect_stmt}
 use Rattle.copy_emit.specs.FirstForm.{arg_types}
 use Rattle.copy_emit.proofs.Every.{all_head, all_tail}
@@ -20,10 +19,8 @@ use Rattle.copy_emit.proofs.Wrapped.{wrapped}
 use Rattle.first_path.specs.Form.{HasFirstForm}
 use Rattle.first_path.specs.Valid.{EachBehind, Define, IsInI32, IsBound, IsValidWhat, IsValidLoop}
 use Rattle.first_rules.proofs.Ends.{each_at, all_at}
-use Rattle.printed_texts.specs.Writable.{IsWritten, IsPositive, TypeFits, InRange, PlainFits, StatementsFit, operands_in_plain, operands_in_nest}
-use Rattle.printed_texts.proofs.SpeltTexts.{fit_followed, count_followed}
-use Rattle.printed_texts.proofs.Unlined.{put_split}
-use Rattle.printed_texts.proofs.Unnested.{what_of, put_plain}
+use Rattle.printed_texts.specs.Writable.{IsWritten, IsPositive, TypeFits, InRange}
+use Rattle.printed_texts.proofs.Composed.{Fits, ListFits, nothing_fits, more_fit, both_fit, wider, plain_fit, loop_fit}
 use Rattle.staged_rules.proofs.Redirected.{staged_of_all}
 use Rattle.staged_texts.proofs.Results.{IsResultWritten}
 use Rattle.staged_texts.proofs.Subscripts.{AreFit, slow_fit, fast_fit}
@@ -49,45 +46,6 @@ i32_in (negsuc n) h = let k = h.0 in InRange.Negative n refl (omega (arith, ints
 
 -- ---- statements that may be written
 
--- a statement of at most so many operands
-record Fits (left : ℕ) (w : What) (most : ℕ) : Type 0 where
-  fit : (line : ℕ) → StatementsFit left (put_what w line Nothing)
-  few : (line : ℕ) → operands_in_nest (put_what w line Nothing) ≤ most
-
-pub record ListFits (left : ℕ) (ss : List Stmt) (most : ℕ) : Type 0 where
-  pub fit : StatementsFit left (nest ss)
-  pub few : operands_in_nest (nest ss) ≤ most
-
-nothing_fits : (left most : ℕ) → ListFits left [] most
-nothing_fits left most = record {
-  fit = subst (StatementsFit left) (sym nest-nil) tt;
-  few = (let z : operands_in_nest (nest []) ≡ 0 = ap operands_in_nest nest-nil in omega (arith, z));
-}
-
-more_fit : (left : ℕ) (s : Stmt) (ss : List Stmt) (a b : ℕ) → Fits left s.what a → ListFits left ss b → ListFits left (s ∷ ss) (a + b)
-more_fit left s ss a b t r =
-    let split = nest-cons s ss ∙ put_split s.what s.line (nest ss) in
-    let n = ap operands_in_nest split ∙ count_followed (put_what s.what s.line Nothing) (nest ss) in
-    let x = t.few s.line in
-    let y = r.few in
-    record { fit = subst (StatementsFit left) (sym split) (fit_followed left (put_what s.what s.line Nothing) (nest ss) (t.fit s.line) r.fit); few = omega (arith, n, x, y) }
-
-pub both_fit : (left : ℕ) (xs ys : List Stmt) (a b : ℕ) → ListFits left xs a → ListFits left ys b → ListFits left (xs ++ ys) (a + b)
-both_fit left xs ys a b t r =
-    let n = ap operands_in_nest (nest-append xs ys) ∙ count_followed (nest xs) (nest ys) in
-    let x = t.few in
-    let y = r.few in
-    record { fit = subst (StatementsFit left) (sym (nest-append xs ys)) (fit_followed left (nest xs) (nest ys) t.fit r.fit); few = omega (arith, n, x, y) }
-
-wider : (left : ℕ) (ss : List Stmt) (a b : ℕ) → a ≤ b → ListFits left ss a → ListFits left ss b
-wider left ss a b h t = let x = t.few in record { fit = t.fit; few = omega (arith, x, h) }
-
-plain_fit : (left : ℕ) (p : Plain) (most : ℕ) → PlainFits p → operands_in_plain p ≤ most → Fits left (what_of p) most
-plain_fit left p most f h = record {
-  fit = λ line. subst (StatementsFit left) (sym (put_plain p line Nothing)) (f, tt);
-  few = λ line. (let n = ap operands_in_nest (put_plain p line Nothing) in omega (arith, n, h));
-}
-
 module _ (left most : ℕ) where
   load_fit : (r m : Name) (at : Access) (ty : MemrefType) → IsWritten r → IsWritten m → AreFit at most → TypeFits ty → Fits left (what.Load r m at ty) most
   load_fit r m at ty v w s y = plain_fit left (Load r m at ty) most (v, w, s.fit, y) s.few
@@ -98,14 +56,11 @@ module _ (left most : ℕ) where
 -- ---- loops
 
 -- a loop between integers, in the function's region
-loop_fit : (v : Name) (low high : ℤ) (body : List Stmt) (most : ℕ) → IsWritten v → InRange low → InRange high → ListFits 38 body most → Fits 39 (what.For v (Int low) (Int high) (pos 1) body) most
-loop_fit v low high body most w a b t =
+numbers_fit : (v : Name) (low high : ℤ) (body : List Stmt) (most : ℕ) → IsWritten v → InRange low → InRange high → ListFits 38 body most → Fits 39 (what.For v (Int low) (Int high) (pos 1) body) most
+numbers_fit v low high body most w a b t =
     let one : IsPositive (pos 1) = record { magnitude = 1; is = refl; small = omega arith } in
-    let f = t.few in
-    record {
-      fit = λ line. subst (StatementsFit 39) (sym (put-For line Nothing v (Int low) (Int high) (pos 1) body)) (w, a, b, one, t.fit, tt);
-      few = λ line. (let n = ap operands_in_nest (put-For line Nothing v (Int low) (Int high) (pos 1) body) in omega (arith, n, f));
-    }
+    let r = loop_fit 38 v (Int low) (Int high) (pos 1) body most w a b one t in
+    record { fit = r.fit; few = λ line. (let n = r.few line in omega (arith, n)) }
 
 -- a staged memref whose names are written
 pub record IsNamed (s : Staged) : Type 0 where
@@ -127,13 +82,13 @@ module _ (s : Staged) (n : IsNamed s) where
 
   copy_in_fits : Fits 39 (copy_in s).what 5
   copy_in_fits =
-      loop_fit s.in_turn (pos 0) (pos s.extent) _ 5 n.in_turn (number_in 0 (omega arith)) (number_in s.extent extent_small)
+      numbers_fit s.in_turn (pos 0) (pos s.extent) _ 5 n.in_turn (number_in 0 (omega arith)) (number_in s.extent extent_small)
       (more_fit 38 _ _ 2 3 (load_fit 38 2 s.in_value s.memref (behind_place s.place s.in_turn) (slow_type s.size) n.in_value n.memref (slow_fit s.in_turn n.in_turn s.place place_small) (slow_told s.size n.small))
       (more_fit 38 _ [] 3 0 (store_fit 38 3 s.in_value s.fast (in_half 0 (at_value s.in_turn)) (window_type s) n.in_value n.fast (fast_fit s.in_turn n.in_turn 0 (omega arith)) (window_told s extent_small)) (nothing_fits 38 0)))
 
   copy_out_fits : Fits 39 (copy_out s).what 5
   copy_out_fits =
-      loop_fit s.out_turn (pos 0) (pos s.extent) _ 5 n.out_turn (number_in 0 (omega arith)) (number_in s.extent extent_small)
+      numbers_fit s.out_turn (pos 0) (pos s.extent) _ 5 n.out_turn (number_in 0 (omega arith)) (number_in s.extent extent_small)
       (more_fit 38 _ _ 3 2 (load_fit 38 3 s.out_value s.fast (in_half 0 (at_value s.out_turn)) (window_type s) n.out_value n.fast (fast_fit s.out_turn n.out_turn 0 (omega arith)) (window_told s extent_small))
       (more_fit 38 _ [] 2 0 (store_fit 38 2 s.out_value s.memref (behind_place s.place s.out_turn) (slow_type s.size) n.out_value n.memref (slow_fit s.out_turn n.out_turn s.place place_small) (slow_told s.size n.small)) (nothing_fits 38 0)))
 
@@ -227,5 +182,5 @@ module _ (args : List Arg) (plan : List Staged) (l : FirstLoop) (names : All IsN
   staged_fits v f =
       wrapped_fits plan (record { line = l.line; what = core_what } ∷ []) (3 * length l.body + 0) names
       (more_fit 39 (record { line = l.line; what = core_what }) [] (3 * length l.body) 0
-      (loop_fit l.var l.low l.high (map (redirect_stmt plan) l.body) (3 * length l.body) var (bound_in l.low v.range.low) (bound_in l.high v.range.high) (body_fits l.body [] refl v.stmts f))
+      (numbers_fit l.var l.low l.high (map (redirect_stmt plan) l.body) (3 * length l.body) var (bound_in l.low v.range.low) (bound_in l.high v.range.high) (body_fits l.body [] refl v.stmts f))
       (nothing_fits 39 0))

@@ -24,8 +24,8 @@ use Rattle.first_path.specs.Valid.{IsValidFirst}
 use Rattle.first_path.specs.Law.{IsStagedBy, RunsAs}
 use Rattle.printed_texts.specs.Comments.{AreOnOneLine, comment_lines}
 use Rattle.printed_texts.specs.Writable.{MayBeWritten}
-use Rattle.printed_texts.proofs.Given.{given_left, given_right}
-use Rattle.printed_texts.proofs.Modules.{ToldFunction, aliases_told, module_told, returning}
+use Rattle.printed_texts.proofs.Given.{given_right}
+use Rattle.printed_texts.proofs.Modules.{HasParts, module_parts, returning}
 use Rattle.printed_texts.proofs.Whole.{given_text}
 use Rattle.printed_texts.proofs.Writing.{written_spells}
 use Rattle.staged_rules.proofs.Forms.{form_under}
@@ -41,13 +41,12 @@ use Rattle.staged_texts.proofs.Unmade.{unmade, plan_unmade, wrapped_alike, core_
 -- ---- the module of the text
 
 -- the parts of the module of a text
-pub input_told : (source : List ℕ) (m : Module) → length source < 2 ^ 64 → Spells source m → ToldFunction m × AreWritten (nest m.body)
-input_told source m short s =
+pub input_parts : (source : List ℕ) (m : Module) → length source < 2 ^ 64 → Spells source m → HasParts m × AreWritten (nest m.body)
+input_parts source m short s =
     let given = given_text source s.tokens s.end short s.lexed in
     let h = s.spelled in
     let f = tokens_of source s.tokens in
-    let known = aliases_told [] h.value h.left (given_left f h.left h.right h.parts given) tt h.first in
-    (module_told h.value m h.right known (given_right f h.left h.right h.parts given) h.second, file_written m f given s.spelled)
+    (module_parts h.value m h.right (given_right f h.left h.right h.parts given) h.second, file_written m f given s.spelled)
 
 -- ---- the staged module with the names of its text
 
@@ -76,7 +75,7 @@ module _ (m : Module) (l : FirstLoop) (form : IsOfFirstForm m l) (v : IsValidFir
       ∙ ap (λ (body : List Stmt). spelling (record m { body = body })) (sym (body_wrapped plan))
 
   -- it may be written
-  staged_written : ToldFunction m → AreWritten (nest m.body) → MayBeWritten (staged m plan l)
+  staged_written : HasParts m → AreWritten (nest m.body) → MayBeWritten (staged m plan l)
   staged_written t w =
       let last : List Stmt = returning l.return_line ∷ [] in
       let is = ap nest form.body ∙ nest-cons (record { line = l.line; what = what.For l.var (Int l.low) (Int l.high) (pos 1) l.body }) last ∙ put-For l.line (nest last) l.var (Int l.low) (Int l.high) (pos 1) l.body in
@@ -108,7 +107,7 @@ module _ (m : Module) (l : FirstLoop) (form : IsOfFirstForm m l) (v : IsValidFir
 
   spells_staged : (source : List ℕ) → length source < 2 ^ 64 → Spells source m → (comments : List (List ℕ)) → All AreOnOneLine comments → SpellsStaged m (comment_lines comments ++ spelling (staged m (first_staged true l) l))
   spells_staged source short s comments lines =
-      let t = input_told source m short s in
+      let t = input_parts source m short s in
       let n = written_spells (staged m plan l) (staged_written t.0 t.1) comments lines in
       subst (λ (text : List ℕ). SpellsStaged m (comment_lines comments ++ text)) (sym spelled_same) (record {
         looped = l;

@@ -13,7 +13,8 @@ use Rattle.first_path.specs.Law.{IsStagedBy, RunsAs}
 use Rattle.printed_texts.specs.Comments.{AreOnOneLine, comment_lines}
 use Rattle.printed_texts.specs.Lines.{AreSameButLines}
 
--- the text spells what is staged of the input, but for lines, with names of a text: a valid module that runs as the input
+-- the text spells what is staged of the input, but for lines, with names of a text: a valid module that runs as the
+-- input
 pub record SpellsStaged (input : Module) (text : List ℕ) : Type 0 where
   pub looped : FirstLoop
   pub form : IsOfFirstForm input looped
@@ -25,5 +26,8 @@ pub record SpellsStaged (input : Module) (text : List ℕ) : Type 0 where
 
 -- where a text spells a module, the printed text of what is staged of it does so, behind any lines of comments
 abbrev pub StagedTextSpells : Type 0
-StagedTextSpells = (source : List ℕ) (input : Module) (output : Staged) → length source < 2 ^ 64 → Spells source input → IsStagedBy input output
-    → (comments : List (List ℕ)) → All AreOnOneLine comments → SpellsStaged input (comment_lines comments ++ spelling output.module)
+StagedTextSpells =
+    (source : List ℕ) (input : Module) (output : Staged)
+    → length source < 2 ^ 64 → Spells source input → IsStagedBy input output
+    → (comments : List (List ℕ)) → All AreOnOneLine comments
+    → SpellsStaged input (comment_lines comments ++ spelling output.module)

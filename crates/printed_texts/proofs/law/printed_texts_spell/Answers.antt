@@ -1,5 +1,5 @@
+use Rattle.printed_texts.proofs.SpeltTexts.{spelled_again}
 use Rattle.printed_texts.proofs.Stable.{same_spelling}
-use Rattle.printed_texts.proofs.Whole.{spelled_again}
 use Rattle.printed_texts.proofs.law.printed_texts_spell.Goals as goal
 
 pub returns-clause-again : goal.returns-clause-again
