@@ -1,1 +1,12 @@
-../crates/affine_cases/data/inc.image.mlir
+func.func @inc(%A: memref<8xi32>, %B: memref<8xi32>) {
+  affine.for %i = 0 to 8 {
+    %0 = affine.load %A[%i] : memref<8xi32>
+    %c = arith.constant 1 : i32
+    %1 = arith.addi %0, %c : i32
+    affine.store %1, %B[%i] : memref<8xi32>
+  }
+  return
+}
+---
+A = 1 2 3 4 5 6 7 8
+B = 0 0 0 0 0 0 0 0

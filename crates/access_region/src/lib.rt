@@ -6,14 +6,15 @@ ghost use Rattle.access_region.specs.Laws.{RegionsLieWithin, RegionsHold, Region
 mod candidate;
 mod dimension;
 mod fault;
+mod interval;
 mod reaching;
+mod region;
 mod span;
 mod widening;
 
-pub use dimension::box_of;
 pub use fault::RegionFault;
 pub use reaching::{Going, Outside, Reaching};
-pub use widening::widen_for_transfers;
+pub use region::region_from;
 
 /// At all whole values of the outer variables and the locals that meet the rows of the loop's outside the region lies within the memref.
 pub fn regions_lie_within()

@@ -8,10 +8,17 @@ use std::alloc::AllocError;
 use std::process::ExitCode;
 use std::{env, io};
 
-/// The words behind the program's name. Words that are no text ask for no command.
+/// The ending of a call with the words behind the program's name. Words that are no text ask for no command; memory that is wanting
+/// while they are read is told apart from them.
 fn answer(rt: &HostRuntime) -> Result<Ending, AllocError> {
-    let Ok(args) = env::args(rt) else {
-        return Ok(Ending::Words);
+    let args = match env::args(rt) {
+        Ok(args) => args,
+        Err(fault) => {
+            return match fault.kind() {
+                io::ErrorKind::OutOfMemory => Err(AllocError),
+                _ => Ok(Ending::Words),
+            };
+        }
     };
     let owned: Vec<String> = args.collect(rt.alloc())?;
     let mut words: Vec<&str> = Vec::new(rt.alloc());

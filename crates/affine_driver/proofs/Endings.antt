@@ -1,5 +1,5 @@
 -- A source decides how it is answered.
-use Rattle.std.proofs.Common.{◌≡◌, ℕ, ◌<◌, ◌≤◌, List, Bool, true, false, Option, Some, None, refl, sym, ◌∙◌, ap, subst, inl, inr, arith}
+use Rattle.std.proofs.Common.{◌≡◌, ℕ, ◌<◌, ◌≤◌, List, [], ◌∷◌, ◌++◌, map, Bool, true, false, Option, Some, None, refl, sym, ◌∙◌, ap, subst, inl, inr, arith}
 use Rattle.std.specs.Prelude.{◌⊎◌}
 use Rattle.affine_ast.specs.declared.image.Image as ast
 use Rattle.affine_ast.specs.declared.module.Module.{Module}
@@ -12,20 +12,26 @@ use Rattle.bus_model.specs.declared.step.Verdict.{Verdict}
 use Rattle.bus_model.specs.declared.step.Verdict.TheVariants as verdict
 use Rattle.direct_meaning.specs.Direct.{plain, verdict_of, state_of}
 use Rattle.direct_meaning.specs.Work.{work}
+use Rattle.copy_emit.specs.FirstPlan.{Planned, first_plan, first_staged}
+use Rattle.copy_emit.specs.Law.{staged}
 use Rattle.copy_emit.specs.Template.{FirstLoop}
+use Rattle.first_path.specs.declared.place.Placement.{Placement}
+use Rattle.first_path.specs.Plan.{planned_of}
+use Rattle.first_path.proofs.Forms.{one_loop}
 use Rattle.first_path.specs.Form.{IsOfFirstForm}
 use Rattle.mem_image.specs.Images as image
 use Rattle.run_laws.specs.StaysFitting.{with_slow}
 use Rattle.mem_image.specs.Laws.{SpellsOne, BreaksOne, NotBoth}
 use Rattle.source_parts.specs.Parts.{text_part, image_part}
 use Rattle.affine_driver.specs.declared.command.Command.{Command}
+use Rattle.affine_driver.specs.declared.command.StageOptions.{StageOptions}
 use Rattle.affine_driver.specs.declared.command.Command.TheVariants.{Check, Regions, Stage, Plain, Run, Order, Both, Sample}
 use Rattle.affine_driver.specs.declared.ending.Ending.{Ending}
 use Rattle.affine_driver.specs.declared.ending.Ending.TheVariants.{Done, Words, ReadFault, TooLong, Text, Invalid, Image, Fault, Unbuilt, WriteFault, Memory, Turns}
-use Rattle.affine_driver.specs.Output.{work_limit, IsPlainOutput, IsOutput}
+use Rattle.affine_driver.specs.Output.{work_limit, report, IsStageOutput, IsPlainOutput, IsOutput}
 use Rattle.affine_driver.specs.Refusals.{AsksPlain, IsBroken, IsInvalid, IsUnbuilt, IsMisread, Has, IsTooMuch, IsFaulty, Refuses}
 use Rattle.affine_driver.specs.Reading.{Because}
-use Rattle.affine_driver.specs.Laws.{IsOpen, IsBuilt, RefusalsAreExact, CheckIsComplete, StageIsComplete, PlainIsComplete, HasOneOutput}
+use Rattle.affine_driver.specs.Laws.{IsOpen, IsBuilt, Completes, IsExact, EndingsAreExact, HasOneOutput}
 
 -- ---- Some values differ
 
@@ -230,7 +236,7 @@ told command source WriteFault h = absurd h
 
 told_output : (command : Command) (source output : List ℕ) → IsOutput command source output → Told command source Done
 told_output Check source output h = inr (h.input, (h.spelled, inr (h.valid, refl)))
-told_output (Stage options) source output h = inr (h.input, (h.spelled, inr (h.valid.0, inr (h.valid.1, inr (h.writes.by.looped, (h.writes.by.form, refl))))))
+told_output (Stage options) source output h = inr (h.input, (h.spelled, inr (h.valid.0, inr (h.valid.1, inr (h.writes.0.by.looped, (h.writes.0.by.form, refl))))))
 told_output Plain source output h = inr (h.input, (h.spelled, inr (h.valid.0, inr (h.valid.1, inr (h.writes.memory, (h.writes.read, inr (h.writes.within, inr (h.writes.ends, refl))))))))
 told_output (Regions options) source output h = absurd h.writes
 told_output (Run options) source output h = absurd h.writes
@@ -300,7 +306,8 @@ refused command source (Turns count) f r h = h
 
 -- ---- The laws
 
-pub refusals : TextLaws → ImageLaws → RefusalsAreExact
+refusals : TextLaws → ImageLaws → (command : Command) (source : List ℕ) (answer refusal : Ending) (before now : Option (List ℕ)) → Because command source answer before now
+    → Refuses command source refusal → IsOpen answer ⊎ IsOpen refusal ⊎ (answer ≡ refusal)
 refusals texts laws command source answer refusal before now b r = by_answer (settled command source answer before now b) (told command source refusal r)
   where
     by_answer : IsOpen answer ⊎ Told command source (settle answer) → IsOpen refusal ⊎ Told command source refusal → IsOpen answer ⊎ IsOpen refusal ⊎ (answer ≡ refusal)
@@ -315,14 +322,22 @@ complete texts laws command source answer before now b k = by_answer (settled co
     by_answer (inl o) = inl o
     by_answer (inr h) = inr (built answer (one_told texts laws command source (settle answer) Done h k))
 
-pub check : TextLaws → ImageLaws → CheckIsComplete
-check texts laws source answer before now b input s v = complete texts laws Check source answer before now b (inr (input, (s, inr (v, refl))))
+-- what a source has that a command asks for is what the ending tells
+told_complete : (command : Command) (source : List ℕ) → Completes command source → Told command source Done
+told_complete Check source k = inr (k.0, (k.1.0, inr (k.1.1, refl)))
+told_complete (Stage options) source k = inr (k.0, (k.1.0, inr (k.1.1.0.0, inr (k.1.1.0.1, inr (k.1.1.1.0, (k.1.1.1.1, refl))))))
+told_complete Plain source k = told_has source k.0 k.1.0 Done k.1.1.0 (inr (k.1.1.1.0, inr (k.1.1.1.1, refl)))
+told_complete (Regions options) source k = absurd k
+told_complete (Run options) source k = absurd k
+told_complete (Order options) source k = absurd k
+told_complete (Both options) source k = absurd k
+told_complete (Sample options) source k = absurd k
 
-pub stage : TextLaws → ImageLaws → StageIsComplete
-stage texts laws options source answer before now b input s v p l f = complete texts laws (Stage options) source answer before now b (inr (input, (s, inr (v, inr (p, inr (l, (f, refl)))))))
-
-pub run : TextLaws → ImageLaws → PlainIsComplete
-run texts laws source answer before now b input memory h w e = complete texts laws Plain source answer before now b (told_has source input memory Done h (inr (w, inr (e, refl))))
+pub exact : TextLaws → ImageLaws → EndingsAreExact
+exact texts laws command source ending before now b = record {
+  refused = λ refusal r. refusals texts laws command source ending refusal before now b r;
+  complete = λ k. complete texts laws command source ending before now b (told_complete command source k);
+}
 
 -- ---- One output
 
@@ -338,3 +353,25 @@ pub one_plain : TextLaws → ImageLaws → HasOneOutput Plain
 one_plain texts laws source output other h k =
     one_run laws k.input (image_part source) output other
     (subst (λ m. IsPlainOutput m (image_part source) output) (texts.one_module (text_part source) h.input k.input h.spelled k.spelled) h.writes) k.writes
+
+placed_of : Planned → Placement
+placed_of p = record { memref = p.memref; size = p.size; place = p.place; extent = p.extent; writes = p.writes }
+
+placements_are : (ps : List Placement) → map placed_of (map planned_of ps) ≡ ps
+unfolding placed_of
+placements_are [] = refl
+placements_are (p ∷ ps) = ap (λ l. p ∷ l) (placements_are ps)
+
+one_staged : (input : Module) (output other : List ℕ) → IsStageOutput input output → IsStageOutput input other → output ≡ other
+one_staged input output other h k =
+    let l : h.by.looped ≡ k.by.looped = sym (one_loop input.body h.by.looped k.by.looped h.by.form.body k.by.form.body) in
+    let line : h.staged.line ≡ k.staged.line = h.by.line ∙ ap (λ x. x.line) l ∙ sym k.by.line in
+    let placed : h.staged.placements ≡ k.staged.placements =
+    sym (placements_are h.staged.placements) ∙ ap (map placed_of) (h.by.placements ∙ ap first_plan l ∙ sym k.by.placements) ∙ placements_are k.staged.placements in
+    let made : h.staged.module ≡ k.staged.module = h.by.made ∙ ap (λ x. staged input (first_staged true x) x) l ∙ sym k.by.made in
+    h.text ∙ ap (λ x. report x h.staged.placements ++ spelling h.staged.module) line ∙ ap (λ x. report k.staged.line x ++ spelling h.staged.module) placed
+    ∙ ap (λ x. report k.staged.line k.staged.placements ++ spelling x) made ∙ sym k.text
+
+pub one_stage : TextLaws → (options : StageOptions) → HasOneOutput (Stage options)
+one_stage texts options source output other h k =
+    one_staged k.input output other (subst (λ m. IsStageOutput m output) (texts.one_module (text_part source) h.input k.input h.spelled k.spelled) h.writes.0) k.writes.0

@@ -1,5 +1,5 @@
 -- Why a source is refused.
-use Rattle.std.proofs.Common.{◌≡◌, ℕ, List, None, refl, sym, inl, inr}
+use Rattle.std.proofs.Common.{◌≡◌, ◌≤◌, ℕ, List, length, None, refl, sym, inl, inr, arith}
 use Rattle.affine_ast.specs.declared.module.Module.{Module}
 use Rattle.affine_ast.specs.Spelling.{spelling}
 use Rattle.affine_ast.specs.Validity.{IsValid}
@@ -16,6 +16,7 @@ use Rattle.affine_driver.specs.declared.command.StageOptions.{StageOptions}
 use Rattle.affine_driver.specs.declared.ending.Ending.{Ending}
 use Rattle.affine_driver.specs.declared.ending.Ending.TheVariants.{Done, Words, ReadFault, TooLong, Text, Invalid, Image, Fault, Unbuilt, WriteFault, Memory, Turns}
 use Rattle.affine_driver.specs.Output.{IsOutput}
+use Rattle.affine_driver.proofs.Reports.{output_spells}
 use Rattle.affine_driver.specs.Refusals.{Refuses, IsNotRead, IsNotStaged, Stages, IsNotRun, Runs}
 
 -- a valid module that isn't of the first form with the rules of that form isn't of the first form
@@ -85,8 +86,13 @@ unrun source text behind input WriteFault e i s v h = h
 pub checked : (source text output : List ℕ) (input : Module) → text ≡ text_part source → Spells text input → IsValid input → output ≡ spelling input → IsOutput Check source output
 checked source text output input e s v w = record { input = input; spelled = rw (sym e) s; valid = v; writes = w }
 
-pub staged : (options : StageOptions) (source text output : List ℕ) (input : Module) → text ≡ text_part source → Spells text input → IsValid input → Stages input output → IsOutput (Stage options) source output
-staged options source text output input e s v w = record { input = input; spelled = rw (sym e) s; valid = (v, w.0); writes = w.1 }
+pub staged : (options : StageOptions) (source text output : List ℕ) (input : Module) → length text ≤ 4194304 → text ≡ text_part source → Spells text input → IsValid input → Stages input output → IsOutput (Stage options) source output
+staged options source text output input short e s v w = record {
+  input = input;
+  spelled = rw (sym e) s;
+  valid = (v, w.0);
+  writes = (w.1, output_spells text output input (omega (arith, short)) s w.1);
+}
 
 pub ran : (source text behind output : List ℕ) (input : Module) → text ≡ text_part source → behind ≡ image_part source → Spells text input → IsValid input → Runs input behind output → IsOutput Plain source output
 ran source text behind output input e i s v w = record { input = input; spelled = rw (sym e) s; valid = (v, w.0); writes = rw (sym i) w.1 }

@@ -4,5 +4,5 @@ pub mod Message
 pub mod Output
 pub mod Reading
 pub mod Refusals
-pub mod Spelled
+pub mod Headline
 pub mod Table

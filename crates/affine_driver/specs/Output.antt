@@ -18,6 +18,7 @@ use Rattle.direct_meaning.specs.Work.{work}
 use Rattle.mem_image.specs.Images as image
 use Rattle.run_laws.specs.StaysFitting.{with_slow}
 use Rattle.source_parts.specs.Parts.{text_part, image_part}
+use Rattle.staged_texts.specs.Laws.{SpellsStaged}
 use Rattle.affine_driver.specs.declared.command.Command.{Command}
 use Rattle.affine_driver.specs.declared.command.Command.TheVariants.{Check, Stage, Plain}
 
@@ -70,11 +71,11 @@ pub record IsPlainOutput (input : Module) (text output : List ℕ) : Type 0 wher
   pub ends : verdict_of (plain input memory) ≡ verdict.End
   pub printed : output ≡ image.printed input (with_slow memory (state_of (plain input memory)).slow)
 
--- what a command writes of a module and the text of an image; `check` writes the module's printed spelling, and `check` and
--- `stage` don't look at the image
+-- what a command writes of a module and the text of an image: `check` the module's printed spelling, `stage` its output, which
+-- spells a valid module that runs as the module does, `plain` the printed image; `check` and `stage` don't look at the image
 abbrev pub Writes : Command → Module → List ℕ → List ℕ → Type 0
 Writes Check input text output = output ≡ spelling input
-Writes (Stage options) input text output = IsStageOutput input output
+Writes (Stage options) input text output = IsStageOutput input output × SpellsStaged input output
 Writes Plain input text output = IsPlainOutput input text output
 Writes unbuilt input text output = ⊥
 

@@ -3,11 +3,13 @@ ghost use Rattle.std.specs.Prelude.{◌≡◌, ◌↔◌, ◌≤◌, map};
 ghost use Rattle.affine_io.specs.Faults.{Rose};
 ghost use Rattle.affine_driver.specs.declared.command.Command.{Command};
 ghost use Rattle.affine_driver.specs.Command.{AsksFor, IsAllowed};
+ghost use Rattle.affine_driver.specs.Headline.{AskForNothing, Decides};
 ghost use Rattle.affine_driver.specs.Reading.{Answers, ComesBeforeWriting};
 
 use crate::answer::answer_of;
 use crate::command::{Command, command_of};
 use crate::ending::Ending;
+use crate::laws::endings_are_exact;
 use crate::limits::SOURCE_LIMIT;
 use affine_io::{ReadStop, Sink, Source, read_all, write_all};
 use std::alloc::{AllocError, Global};
@@ -43,17 +45,14 @@ fn run_command<S: Source, K: Sink>(
     }
 }
 
-/// Reads a source and writes the command's output to the sink.
-///
-/// Words are tested before anything is read, and the output is built whole before any of it is written. Want of memory may
-/// come anywhere before writing, while words are read too; the source has then lost what it gave.
-pub fn stage_main<S: Source, K: Sink>(
+/// Answers the command that the words ask for.
+fn answer_words<S: Source, K: Sink>(
     alloc: Global,
     words: &[&str],
     source: &mut S,
     sink: &mut K,
 ) -> Ending
-    ensures words { (result ≡ Ending.Memory → ⊥) → ((result ≡ Ending.Words) ↔ ((command : Command) → AsksFor (map (λ word. word.now) words.entry.now) command → ⊥)) }
+    ensures words { (result ≡ Ending.Memory → ⊥) → ((result ≡ Ending.Words) ↔ AskForNothing (map (λ word. word.now) words.entry.now)) }
     ensures unasked { result ≡ Ending.Words → source.new ≡ source.old }
 
     ensures answers { (command : Command) → AsksFor (map (λ word. word.now) words.entry.now) command → Answers SOURCE_LIMIT command result (S.left source.old) (S.left source.new) (K.contents sink.old) (K.contents sink.new) }
@@ -68,4 +67,28 @@ pub fn stage_main<S: Source, K: Sink>(
         Ok(None) => Ending::Words,
         Err(AllocError) => Ending::Memory,
     }
+}
+
+/// Reads a source and writes the command's output to the sink.
+///
+/// Words are tested before anything is read, and the output is built whole before any of it is written. Want of memory may
+/// come anywhere before writing, while words are read too; the source has then lost what it gave.
+pub fn stage_main<S: Source, K: Sink>(
+    alloc: Global,
+    words: &[&str],
+    source: &mut S,
+    sink: &mut K,
+) -> Ending
+    ensures words { (result ≡ Ending.Memory → ⊥) → ((result ≡ Ending.Words) ↔ AskForNothing (map (λ word. word.now) words.entry.now)) }
+    ensures unasked { result ≡ Ending.Words → source.new ≡ source.old }
+
+    ensures answers { (command : Command) → AsksFor (map (λ word. word.now) words.entry.now) command → Decides SOURCE_LIMIT command result (S.left source.old) (S.left source.new) (K.contents sink.old) (K.contents sink.new) }
+    ensures read_fault { result ≡ Ending.ReadFault → Rose (S.faults source.old) (S.faults source.new) }
+    ensures later { S.faults source.old ≤ S.faults source.new }
+
+    ensures unwritten { ComesBeforeWriting result → sink.new ≡ sink.old }
+    ensures write_fault { result ≡ Ending.WriteFault → Rose (K.faults sink.old) (K.faults sink.new) }
+{
+    endings_are_exact();
+    answer_words(alloc, words, source, sink)
 }

@@ -1,13 +1,12 @@
 -- The numbers of the rows of steps and divisions.
-use Rattle.std.proofs.Common.{◌≡◌, ℕ, ◌-◌, ◌++◌, [], ◌∷◌, length, replicate, Ok, Result, List, ℤ, pos, ◌+ℤ◌, ◌-ℤ◌, ◌*ℤ◌, ◌<ℤ◌, ◌≤ℤ◌, neg_ℤ, refl, sym, ap, subst, ◌∙◌, arith, append-nil}
+use Rattle.std.proofs.Common.{◌≡◌, ◌-◌, ◌++◌, [], ◌∷◌, length, replicate, Ok, List, ℤ, pos, ◌+ℤ◌, ◌-ℤ◌, ◌*ℤ◌, ◌<ℤ◌, neg_ℤ, refl, sym, ap, subst, ◌∙◌, arith, append-nil}
 use Rattle.std.proofs.lemmas.Int.{ints}
 use Rattle.std.specs.Int.{int_div_euclid, int_rem_euclid}
 use Rattle.num_row.proofs.Ring.{Var, ◌⊕◌, ◌⊗◌, Neg, ring}
-use Rattle.num_row.proofs.Floors.{floor_rest, rest_low, rest_high, rest_unique}
-use Rattle.affine_expr.specs.declared.linear.LinearFault.{LinearFault}
+use Rattle.num_row.proofs.Floors.{floor_rest, rest_high, rest_unique}
 use Rattle.affine_expr.specs.declared.linear.Join.TheVariants.{Difference}
 use Rattle.affine_expr.specs.Value.{floor_div, floor_mod}
-use Rattle.affine_expr.specs.Forms.{Form, LocalForm, dot}
+use Rattle.affine_expr.specs.Forms.{Form, dot}
 use Rattle.affine_expr.specs.Linear.{join_forms, number_form, padded, minus}
 use Rattle.affine_expr.proofs.Divisions.{floor_is}
 use Rattle.affine_expr.proofs.FormValues.{Gives, worth, IsJoin, join_forms_gives, number_long}

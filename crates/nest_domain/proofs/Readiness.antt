@@ -3,9 +3,7 @@ use Rattle.std.proofs.Common.{◌≡◌, ℕ, zero, suc, Bool, true, false, cond
 use Rattle.std.proofs.lemmas.Int.{ints}
 use Rattle.std.specs.Prelude.{◌&&◌}
 use Rattle.std.proofs.lemmas.Bool.{and_parts}
-use Rattle.affine_expr.specs.declared.map.Set.{Set}
 use Rattle.affine_ast.specs.declared.module.Module.{Module}
-use Rattle.affine_ast.specs.declared.name.Name.{Name}
 use Rattle.affine_ast.specs.declared.types.Access.{Access}
 use Rattle.affine_ast.specs.declared.types.Bound.{Bound}
 use Rattle.affine_ast.specs.declared.types.Bound.TheVariants as bound
@@ -13,7 +11,7 @@ use Rattle.affine_ast.specs.declared.types.MemrefType.{MemrefType}
 use Rattle.affine_ast.specs.Intervals.{Ranges, first_turn, last_end, turn_range}
 use Rattle.affine_ast.specs.Names.{put}
 use Rattle.affine_ast.specs.Nest.{Plain, Nest, Nothing, Loop, Branch, Does, Value, Load, Store, RawLoad, RawStore, Constant, Binary, Cast, Alloc, Dealloc, Start, Wait, Return, nest}
-use Rattle.affine_ast.specs.Rules.{map_fits, subscripts_fit, bound_fits, bound_pure, step_positive, counts_fit, maps_pure, results_fit, set_fits, set_pure}
+use Rattle.affine_ast.specs.Rules.{map_fits, subscripts_fit, bound_fits, bound_pure, step_positive, counts_fit, maps_pure, results_fit}
 use Rattle.affine_ast.specs.Scope.{Totals, Around, counted, in_loop, in_condition, with_totals, behind_plain}
 use Rattle.affine_ast.specs.Validity.{Passed, then_told, told, rule_of_plain, rule_of_loop, rule_of_condition, IsValid}
 use Rattle.direct_meaning.specs.Work.{ranges_after, start_ranges}
@@ -22,7 +20,7 @@ use Rattle.valid_laws.proofs.Passing.{judged_passed, then_passed, plain_holds, l
 use Rattle.valid_laws.proofs.Reach.{valid_bounded}
 use Rattle.module_work.specs.Workable.{WorkableBound, WorkablePlain}
 use Rattle.nest_domain.specs.Ways.{Header, Round, Given, Except, Behind, Past, Spot, under, spot, at_path}
-use Rattle.nest_domain.specs.Ready.{ReadySet, ReadyHeader, ReadyPlain, ReadyHere, Ready, ReadyNest, ranges_along, ranges_at_end}
+use Rattle.nest_domain.specs.Ready.{ReadyHeader, ReadyPlain, ReadyHere, Ready, ReadyNest, ranges_along, ranges_at_end}
 
 bound_ready : (rho : Ranges) (b : Bound) → bound_fits b ≡ true → bound_pure b ≡ true → BoundedBound rho b → WorkableBound rho b
 bound_ready rho (bound.Int z) f p b = tt

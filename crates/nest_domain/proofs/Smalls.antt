@@ -8,7 +8,7 @@ use Rattle.affine_expr.specs.declared.map.Constraint.{Constraint}
 use Rattle.affine_expr.specs.declared.expr.Expr.{Expr, fold-Expr, fold-roll-Expr, ind-Expr, map-Expr, roll-Expr}
 use Rattle.affine_expr.specs.declared.expr.Expr.TheOpen.{Expr-F}
 use Rattle.affine_expr.specs.Value.{floor_div, ceil_div, floor_mod}
-use Rattle.affine_expr.specs.Spread.{Range, Within, Spread, only, scaled, range_of_product, range_of_floor, range_of_ceil, range_of_mod, both_fixed, one_fixed, spread_step}
+use Rattle.affine_expr.specs.Spread.{Range, Within, Spread, range_of_product, range_of_floor, range_of_ceil, range_of_mod, both_fixed, one_fixed, spread_step}
 use Rattle.affine_expr.specs.Pure.{is_outside, is_small, is_positive, Purity, purity_at, purity, is_pure, has_small_numbers}
 use Rattle.affine_expr.specs.Bounded.{◌>>=◌, limited, bounded, bounded_step}
 use Rattle.affine_expr.proofs.Limits.{is_inside, not_outside}

@@ -1,13 +1,8 @@
 -- Linear forms of several expressions over the forms of their operands, and the rows of their locals.
-use Rattle.std.specs.Prelude.{ℕ, ◌+◌, ◌-◌, pos, neg_ℤ, ◌+ℤ◌, ◌-ℤ◌, ◌*ℤ◌, List, [], ◌∷◌, ◌++◌, length, replicate, slice_get, Option, Some, None, Result, Ok, Err}
-use Rattle.affine_expr.specs.declared.expr.Expr.{Expr, fold-Expr}
-use Rattle.affine_expr.specs.declared.expr.Expr.TheOpen.{Expr-F}
+use Rattle.std.specs.Prelude.{ℕ, pos, neg_ℤ, ◌-ℤ◌, List, [], ◌∷◌, ◌++◌, length, Result, Ok}
+use Rattle.affine_expr.specs.declared.expr.Expr.{Expr}
 use Rattle.affine_expr.specs.declared.linear.LinearFault.{LinearFault}
-use Rattle.affine_expr.specs.declared.linear.LinearFault.TheVariants.{Wide}
-use Rattle.affine_expr.specs.declared.linear.Join.{Join}
-use Rattle.affine_expr.specs.declared.linear.Join.TheVariants.{Sum, Difference}
-use Rattle.affine_expr.specs.Value.{floor_div, ceil_div, floor_mod}
-use Rattle.affine_expr.specs.Spread.{both_fixed, one_fixed}
+use Rattle.affine_expr.specs.declared.linear.Join.TheVariants.{Difference}
 use Rattle.affine_expr.specs.Forms.{Form, LocalForm}
 use Rattle.affine_expr.specs.Linear.{◌>>=◌, join_forms, number_form, over}
 

@@ -4,7 +4,6 @@ use Rattle.std.specs.Prelude.{◌≡◌, ℕ, Bool, true, List, [], ◌∷◌, S
 use Rattle.affine_expr.specs.declared.map.Set.{Set}
 use Rattle.affine_ast.specs.declared.module.Module.{Module}
 use Rattle.affine_ast.specs.declared.name.Name.{Name}
-use Rattle.affine_ast.specs.declared.types.Access.{Access}
 use Rattle.affine_ast.specs.Intervals.{Ranges, first_turn, last_end, turn_range}
 use Rattle.affine_ast.specs.Names.{put}
 use Rattle.affine_ast.specs.Nest.{Plain, Nest, nest, Nothing, Loop, Branch, Does, Value, Load, Store}

@@ -22,7 +22,8 @@ pub record IsPlaceOf (fs : List Flying) (tag k : ℕ) (f : Flying) : Type 0 wher
 
 -- what it takes that an engine takes a tag's transfer
 abbrev pub MayTake : ℕ → ℕ → ℕ → List Flight → Type 0
-MayTake engines engine tag flights = (engine < engines) × (held_by flights engine ≡ None) × CanBeTaken (flight_of flights tag)
+MayTake engines engine tag flights =
+    (engine < engines) × (held_by flights engine ≡ None) × CanBeTaken (flight_of flights tag)
 
 abbrev pub MayFinish : ℕ → ℕ → List Flight → Type 0
 MayFinish engines engine flights = (engine < engines) × HasAll (held_by flights engine)

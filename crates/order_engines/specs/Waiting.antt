@@ -4,7 +4,8 @@ use Rattle.order_meaning.specs.Listed.{Has, IsAscending, IsWaiting}
 use Rattle.order_engines.specs.declared.flights.Flights.{Flights}
 use Rattle.order_engines.specs.Flying.{flights_of, AreApart, AllFlyWithin}
 
--- no two transfers have one tag, each fits so many slow words, and the tags beside them are those that an engine can take
+-- no two transfers have one tag, each fits so many slow words, and the tags beside them are those that an engine can
+-- take
 pub record IsFlights (slow : ℕ) (f : Flights) : Type 0 where
   pub waiting : IsWaiting (flights_of f.flying.items) f.waiting.items
   pub apart : AreApart f.flying.items

@@ -35,8 +35,8 @@ pub fn place_of(flights: &[Flying], tag: u32) -> Option<usize>
     None
 }
 
-/// An idle engine takes a tag's transfer, of which nothing is moved and that no engine holds. False, with nothing changed,
-/// where it may not.
+/// An idle engine takes a tag's transfer, of which nothing is moved and that no engine holds. False, with nothing
+/// changed, where it may not.
 pub fn take(flights: &mut [Flying], engines: u32, engine: u32, tag: u32) -> bool
     ensures { MatchBool result
         (MayTake engines engine tag (flights_of flights.old) × (flights_of flights.new ≡ with_flight (flights_of flights.old) tag (with_engine (Some engine))))
@@ -81,7 +81,8 @@ pub fn finish(flights: &mut [Flying], engines: u32, engine: u32) -> bool
     true
 }
 
-/// The engine of a transfer moves its next element. False, with nothing changed, where none is left or it holds no transfer.
+/// The engine of a transfer moves its next element. False, with nothing changed, where none is left or it holds no
+/// transfer.
 pub fn move_next(slow: &mut [i64], flights: &mut [Flying], engines: u32, engine: u32) -> bool
     requires apart { AreApart flights.old }
     requires within { AllFlyWithin (length slow.old) (flights_of flights.old) }

@@ -107,8 +107,8 @@ impl Flights {
         None
     }
 
-    /// An idle engine takes a tag's transfer, of which nothing is moved and that no engine holds. False, with nothing changed,
-    /// where it may not.
+    /// An idle engine takes a tag's transfer, of which nothing is moved and that no engine holds. False, with nothing
+    /// changed, where it may not.
     pub fn take(&mut self, engines: u32, engine: u32, tag: u32) -> bool
         requires { (slow : ℕ) × IsFlights slow self.old }
         ensures takes { MatchBool result
@@ -134,7 +134,8 @@ impl Flights {
         finish(self.flying.as_mut_slice(), engines, engine)
     }
 
-    /// The engine of a transfer moves its next element. False, with nothing changed, where none is left or it holds no transfer.
+    /// The engine of a transfer moves its next element. False, with nothing changed, where none is left or it holds no
+    /// transfer.
     pub fn move_next(&mut self, slow: &mut [i64], engines: u32, engine: u32) -> bool
         requires { IsFlights (length slow.old) self.old }
         ensures moves { MatchBool result
@@ -145,7 +146,8 @@ impl Flights {
         move_next(slow, self.flying.as_mut_slice(), engines, engine)
     }
 
-    /// A transfer is outstanding from here on, behind the others, with its half's cells. Nothing of it is moved, and no engine holds it.
+    /// A transfer is outstanding from here on, behind the others, with its half's cells. Nothing of it is moved, and no
+    /// engine holds it.
     pub fn start(&mut self, transfer: Transfer, cells: Vec<i64>)
         requires kept { (slow : ℕ) × IsFlights slow self.old }
         requires idle { flight_of (flights_of self.old.flying.items) transfer.tag ≡ None }
@@ -165,7 +167,8 @@ impl Flights {
         });
     }
 
-    /// Takes the transfer of a tag off, finished, with its half's cells. None, with nothing changed, where the tag isn't started.
+    /// Takes the transfer of a tag off, finished, with its half's cells. None, with nothing changed, where the tag
+    /// isn't started.
     pub fn collect(&mut self, tag: u32) -> Option<Flying>
         requires kept { (slow : ℕ) × IsFlights slow self.old }
         requires finished { (f : Flight) → flight_of (flights_of self.old.flying.items) tag ≡ Some f → is_finished f ≡ true }

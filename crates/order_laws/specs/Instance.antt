@@ -77,4 +77,5 @@ memory = record { memrefs = record { values = pos 1 ∷ pos 2 ∷ pos 3 ∷ pos 
 pub record TwiceOut : Type 0 where
   pub valid : IsValid twice_out
   pub fits : Fits twice_out memory
-  pub agree : (filler : ℤ) (capacity engines : ℕ) → 1 ≤ engines → OrdersAgree filler capacity (module_actions twice_out []) memory engines
+  pub agree : (filler : ℤ) (capacity engines : ℕ) → 1 ≤ engines
+      → OrdersAgree filler capacity (module_actions twice_out []) memory engines

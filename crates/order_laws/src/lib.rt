@@ -6,15 +6,16 @@
 ghost use Rattle.order_laws.specs.Instance.{TwiceOut};
 ghost use Rattle.order_laws.specs.Law.{ValidIsOrderly, ValidOrdersAgree};
 
-/// From every memory that fits a valid module: an allocation isn't allocated when it runs, a started transfer lies within an
-/// allocated half and within its memref, its places are distinct, and its tag is released behind it.
+/// From every memory that fits a valid module: an allocation isn't allocated when it runs, a started transfer lies
+/// within an allocated half and within its memref, its places are distinct, and its tag is released behind it.
 pub fn valid_is_orderly()
     ensures { ValidIsOrderly }
 {}
 
-/// From every memory that fits a valid module, for every filler, capacity and number of engines from 1 on: each run of its
-/// machine goes on to a maximal one and agrees with the prompt meaning; where that ends, so does each maximal run, with the
-/// same slow memory, after as many steps as the prompt meaning counts; where it stops at a fault, so does each maximal run.
+/// From every memory that fits a valid module, for every filler, capacity and number of engines from 1 on: each run of
+/// its machine goes on to a maximal one and agrees with the prompt meaning; where that ends, so does each maximal run,
+/// with the same slow memory, after as many steps as the prompt meaning counts; where it stops at a fault, so does each
+/// maximal run.
 pub fn valid_orders_agree()
     ensures { ValidOrdersAgree }
 {}

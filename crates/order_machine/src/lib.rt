@@ -1,7 +1,8 @@
 //! A module's transfers under every order of the engines' steps.
 //!
-//! `all_orders_agree` is the law of all orders for one module and one memory: what any run of its machine comes to, whatever engine
-//! makes the next step. The machine, its runs and the agreement are `order_meaning`'s, the engines' steps `order_engines`'.
+//! `all_orders_agree` is the law of all orders for one module and one memory: what any run of its machine comes to,
+//! whatever engine makes the next step. The machine, its runs and the agreement are `order_meaning`'s, the engines'
+//! steps `order_engines`'.
 #![tactic(auto)]
 
 ghost use Rattle.std.specs.Prelude.{◌≤◌};
@@ -10,9 +11,10 @@ ghost use Rattle.order_meaning.specs.Law.{OrdersAgree};
 
 use affine_ast::{Image, Verified};
 
-/// Each run of the machine of a module, from a memory that fits it, agrees in each state with the prompt meaning after as many
-/// actions, and goes on to a run after which no step is enabled. Where the prompt meaning ends, each such run ends with its slow
-/// memory, after its actions and engine steps; where it stops at a fault, each such run stops at that fault, after at most as many.
+/// Each run of the machine of a module, from a memory that fits it, agrees in each state with the prompt meaning after
+/// as many actions, and goes on to a run after which no step is enabled. Where the prompt meaning ends, each such run
+/// ends with its slow memory, after its actions and engine steps; where it stops at a fault, each such run stops at
+/// that fault, after at most as many.
 pub fn all_orders_agree(module: &Verified, image: &Image, filler: i64, capacity: u64, engines: u32)
     requires fits { Fits «module».now.inner image.now }
     requires some_engine { 1 ≤ engines }

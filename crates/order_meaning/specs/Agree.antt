@@ -40,12 +40,13 @@ pub record FlightOk (engines : ℕ) (f : Flight) : Type 0 where
   pub not_past : f.moved ≤ f.transfer.count
 
 pub record Agree (engines : ℕ) (x : Core) (y : Device) : Type 0 where
-  -- slow memory but for the unmoved elements of outgoing transfers; the transfers' lists but for the unmoved elements of
-  -- incoming ones, whose values stand at their slow places; places that don't meet
+  -- slow memory but for the unmoved elements of outgoing transfers; the transfers' lists but for the unmoved elements
+  -- of incoming ones, whose values stand at their slow places; places that don't meet
   pub bus : BusAgrees (bus_of x) (prompt_of y)
   -- each transfer has at most one engine, and each engine at most one transfer
   pub flights : (tag : ℕ) (f : Flight) → flight_of x.flights tag ≡ Some f → FlightOk engines f
-  pub engines_apart : (t u e : ℕ) (f g : Flight) → flight_of x.flights t ≡ Some f → flight_of x.flights u ≡ Some g → f.engine ≡ Some e → g.engine ≡ Some e → t ≡ u
+  pub engines_apart : (t u e : ℕ) (f g : Flight) → flight_of x.flights t ≡ Some f → flight_of x.flights u ≡ Some g
+      → f.engine ≡ Some e → g.engine ≡ Some e → t ≡ u
   -- a half that is here is equal in both, and a half is away exactly where an outstanding transfer names it
   pub here : (number half : ℕ) (cells : List ℤ) → x.halves number half ≡ Here cells → cells ≡ y.halves number half
   pub away : HalvesAway (λ number half. tag_of (x.halves number half)) (started_of (lists_of y.halves y.outstanding))

@@ -38,14 +38,20 @@ module _ (filler : ℤ) (capacity : ℕ) (actions : List Action) (m : Image) whe
 
     pub record OrdersAgree : Type 0 where
       -- in each state of a run, it agrees with the prompt state after as many actions
-      pub agree : (steps : List Step) → IsRun filler capacity first steps → Agree engines (after_steps filler capacity first steps).core (promptly_after (computes steps))
+      pub agree : (steps : List Step) → IsRun filler capacity first steps
+          → Agree engines (after_steps filler capacity first steps).core (promptly_after (computes steps))
       -- each run is a prefix of a maximal one
-      pub onward : (steps : List Step) → IsRun filler capacity first steps → (more : List Step) × IsMaximal filler capacity first (steps ++ more)
+      pub onward : (steps : List Step) → IsRun filler capacity first steps → (more : List Step)
+          × IsMaximal filler capacity first (steps ++ more)
       -- no run is longer than the prompt meaning's numbers say
-      pub bounded : (steps : List Step) → IsRun filler capacity first steps → length steps ≤ (state_of promptly).actions + (state_of promptly).engine_steps
-      pub ended : (steps : List Step) → IsMaximal filler capacity first steps → (y : Device) → promptly ≡ End y → Ended steps y
-      pub faulted : (steps : List Step) → IsMaximal filler capacity first steps → (k : FaultKind) (y : Device) → promptly ≡ Fault k y → Faulted steps k y
+      pub bounded : (steps : List Step) → IsRun filler capacity first steps
+          → length steps ≤ (state_of promptly).actions + (state_of promptly).engine_steps
+      pub ended : (steps : List Step) → IsMaximal filler capacity first steps → (y : Device) → promptly ≡ End y
+          → Ended steps y
+      pub faulted : (steps : List Step) → IsMaximal filler capacity first steps → (k : FaultKind) (y : Device)
+          → promptly ≡ Fault k y → Faulted steps k y
 
 -- for all orders
 abbrev pub AllOrdersAgree : Type 0
-AllOrdersAgree = (filler : ℤ) (capacity : ℕ) (actions : List Action) (m : Image) (engines : ℕ) → 1 ≤ engines → Orderly (length (first_state m).slow) actions → OrdersAgree filler capacity actions m engines
+AllOrdersAgree = (filler : ℤ) (capacity : ℕ) (actions : List Action) (m : Image) (engines : ℕ) → 1 ≤ engines
+    → Orderly (length (first_state m).slow) actions → OrdersAgree filler capacity actions m engines

@@ -32,8 +32,8 @@ abbrev pub compute_steps : List Action → List Flight → List Step
 compute_steps [] flights = []
 compute_steps (a ∷ more) flights = if is_held_up a flights then [] else Compute ∷ []
 
--- an idle engine can take each waiting transfer, by ascending tag; one that holds a transfer can move its next element, or let go of
--- it where none is left
+-- an idle engine can take each waiting transfer, by ascending tag; one that holds a transfer can move its next element,
+-- or let go of it where none is left
 abbrev pub engine_steps : List ℕ → ℕ → Option Flight → List Step
 engine_steps tags e None = map (Take e) tags
 engine_steps tags e (Some f) = (if nat_lt f.moved f.transfer.count then Move e else Finish e) ∷ []
@@ -55,7 +55,8 @@ pub record IsListed (x : Machine) (steps : List Step) : Type 0 where
 
 -- in each state that agrees with a prompt state, the list has exactly the enabled steps
 abbrev pub ListsEnabled : Type 0
-ListsEnabled = (x : Machine) (y : Device) → Agree x.engines x.core y → (steps : List Step) → IsListed x steps → (s : Step) → Enabled s x ↔ Has steps s
+ListsEnabled = (x : Machine) (y : Device) → Agree x.engines x.core y → (steps : List Step) → IsListed x steps
+    → (s : Step) → Enabled s x ↔ Has steps s
 
 -- and there is one such list
 abbrev pub ListsOne : Type 0

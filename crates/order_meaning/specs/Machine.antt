@@ -55,16 +55,19 @@ load_half r cell (Here cells) x = End (record x { state = keep r (slice_index_or
 load_half r cell (Away tag) x = Fault Touched x
 
 abbrev pub load : Name → Place → Core → Outcome Core
-load r (Slow place) x = refused (load_races (transfers_of x.flights) place) Race x (End (record x { state = keep r (slice_index_or x.state.slow place (pos 0)) x.state }))
+load r (Slow place) x =
+    refused (load_races (transfers_of x.flights) place) Race x (End (record x { state = keep r (slice_index_or x.state.slow place (pos 0)) x.state }))
 load r (Fast number half cell) x = load_half r cell (x.halves number half) x
 load r Outside x = Fault Bounds x
 
 abbrev pub store_half : ℤ → ℕ → ℕ → ℕ → Half → Core → Outcome Core
-store_half z number half cell (Here cells) x = End (record x { halves = put_half x.halves number half (Here (slice_set cells cell z)) })
+store_half z number half cell (Here cells) x =
+    End (record x { halves = put_half x.halves number half (Here (slice_set cells cell z)) })
 store_half z number half cell (Away tag) x = Fault Touched x
 
 abbrev pub store : ℤ → Place → Core → Outcome Core
-store z (Slow place) x = refused (store_races (transfers_of x.flights) place) Race x (End (record x { state = write place z x.state }))
+store z (Slow place) x =
+    refused (store_races (transfers_of x.flights) place) Race x (End (record x { state = write place z x.state }))
 store z (Fast number half cell) x = store_half z number half cell (x.halves number half) x
 store z Outside x = Fault Bounds x
 
@@ -81,7 +84,8 @@ sent t cells = record { transfer = t; cells = cells; moved = 0; engine = None }
 
 -- a start: the half's list is moved out, and nothing is copied
 abbrev pub start_half : Transfer → Half → Core → Outcome Core
-start_half t (Here cells) x = refused (start_races (transfers_of x.flights) t) Race x (End (record x { halves = put_half x.halves t.fast t.half (Away t.tag); flights = x.flights ++ sent t cells ∷ [] }))
+start_half t (Here cells) x =
+    refused (start_races (transfers_of x.flights) t) Race x (End (record x { halves = put_half x.halves t.fast t.half (Away t.tag); flights = x.flights ++ sent t cells ∷ [] }))
 start_half t (Away tag) x = Fault Touched x
 
 abbrev pub start : Transfer → Core → Outcome Core
@@ -106,14 +110,18 @@ act_on filler capacity Known x = carried x (direct_step Known x.state)
 act_on filler capacity (Sets r z) x = carried x (direct_step (Sets r z) x.state)
 act_on filler capacity (Loads r place) x = load r place x
 act_on filler capacity (Stores v place) x = store (read x.state.registers v) place x
-act_on filler capacity (RawLoads r home sizes subscripts) x = load r (raw_place x.state.registers home sizes subscripts) x
-act_on filler capacity (RawStores v home sizes subscripts) x = store (read x.state.registers v) (raw_place x.state.registers home sizes subscripts) x
+act_on filler capacity (RawLoads r home sizes subscripts) x =
+    load r (raw_place x.state.registers home sizes subscripts) x
+act_on filler capacity (RawStores v home sizes subscripts) x =
+    store (read x.state.registers v) (raw_place x.state.registers home sizes subscripts) x
 act_on filler capacity (Operates r op bits a b) x = carried x (direct_step (Operates r op bits a b) x.state)
 act_on filler capacity (Converts r kind from to v) x = carried x (direct_step (Converts r kind from to v) x.state)
 act_on filler capacity (Allocates number element sizes) x = allocate filler capacity number element sizes x
-act_on filler capacity (Releases number element sizes) x = refused (has_away (transfers_of x.flights) number) Touched x (End (record x { live = x.live - bytes_of element sizes }))
+act_on filler capacity (Releases number element sizes) x =
+    refused (has_away (transfers_of x.flights) number) Touched x (End (record x { live = x.live - bytes_of element sizes }))
 act_on filler capacity (AllocatesTags first count) x = End x
-act_on filler capacity (ReleasesTags first count) x = refused (has_started (transfers_of x.flights) first count) Tag x (End x)
+act_on filler capacity (ReleasesTags first count) x =
+    refused (has_started (transfers_of x.flights) first count) Tag x (End x)
 act_on filler capacity (Starts t) x = start t x
 act_on filler capacity (Waits tag count) x = wait_on (flight_of x.flights tag) tag count x
 act_on filler capacity (Faults k) x = Fault k x

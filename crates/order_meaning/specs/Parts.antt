@@ -24,28 +24,41 @@ prompt_half y f = y.halves f.transfer.fast f.transfer.half
 
 pub record Parts (engines : ℕ) (x : Core) (y : Device) : Type 0 where
   -- 1: a slow element outside the unmoved parts of outgoing transfers is equal in both
-  pub slow : (i : ℕ) → ((f : Flight) (e : ℕ) → IsOutstanding x f → f.transfer.incoming ≡ false → IsUnmoved f e → slow_place f.transfer e ≢ i) → number_at x.state.slow i ≡ number_at y.state.slow i
+  pub slow : (i : ℕ) → ((f : Flight) (e : ℕ) → IsOutstanding x f → f.transfer.incoming ≡ false → IsUnmoved f e
+      → slow_place f.transfer e ≢ i) → number_at x.state.slow i ≡ number_at y.state.slow i
   -- 2: the unmoved element of an outgoing transfer has in its list the value that y has at its slow place
-  pub outgoing : (f : Flight) (e : ℕ) → IsOutstanding x f → f.transfer.incoming ≡ false → IsUnmoved f e → number_at f.cells (own_cell f e) ≡ number_at y.state.slow (slow_place f.transfer e)
-  -- 3: the moved element of an incoming transfer has in its list the value in y's half; an unmoved one has it at its slow place in x
-  pub moved_in : (f : Flight) (e : ℕ) → IsOutstanding x f → f.transfer.incoming ≡ true → e < f.moved → number_at f.cells (own_cell f e) ≡ number_at (prompt_half y f) (own_cell f e)
-  pub unmoved_in : (f : Flight) (e : ℕ) → IsOutstanding x f → f.transfer.incoming ≡ true → IsUnmoved f e → number_at x.state.slow (slow_place f.transfer e) ≡ number_at (prompt_half y f) (own_cell f e)
+  pub outgoing : (f : Flight) (e : ℕ) → IsOutstanding x f → f.transfer.incoming ≡ false → IsUnmoved f e
+      → number_at f.cells (own_cell f e) ≡ number_at y.state.slow (slow_place f.transfer e)
+  -- 3: the moved element of an incoming transfer has in its list the value in y's half; an unmoved one has it at its
+  -- slow place in x
+  pub moved_in : (f : Flight) (e : ℕ) → IsOutstanding x f → f.transfer.incoming ≡ true → e < f.moved
+      → number_at f.cells (own_cell f e) ≡ number_at (prompt_half y f) (own_cell f e)
+  pub unmoved_in : (f : Flight) (e : ℕ) → IsOutstanding x f → f.transfer.incoming ≡ true → IsUnmoved f e
+      → number_at x.state.slow (slow_place f.transfer e) ≡ number_at (prompt_half y f) (own_cell f e)
   -- 4: no two outstanding transfers share a slow place that one of them writes; the slow places of one are distinct
-  pub apart : (f g : Flight) → IsOutstanding x f → IsOutstanding x g → f.transfer.tag ≢ g.transfer.tag → (f.transfer.incoming ≡ false) ⊎ (g.transfer.incoming ≡ false)
+  pub apart : (f g : Flight) → IsOutstanding x f → IsOutstanding x g → f.transfer.tag ≢ g.transfer.tag
+      → (f.transfer.incoming ≡ false) ⊎ (g.transfer.incoming ≡ false)
       → (d e : ℕ) → d < f.transfer.count → e < g.transfer.count → slow_place f.transfer d ≢ slow_place g.transfer e
-  pub distinct : (f : Flight) → IsOutstanding x f → (d e : ℕ) → d < f.transfer.count → e < f.transfer.count → slow_place f.transfer d ≡ slow_place f.transfer e → d ≡ e
-  -- 5: one without an engine has moved nothing or all, no moved count passes its transfer's count, and each engine has at most
-  -- one transfer
+  pub distinct : (f : Flight) → IsOutstanding x f → (d e : ℕ) → d < f.transfer.count → e < f.transfer.count
+      → slow_place f.transfer d ≡ slow_place f.transfer e → d ≡ e
+  -- 5: one without an engine has moved nothing or all, no moved count passes its transfer's count, and each engine has
+  -- at most one transfer
   pub flights : (f : Flight) → IsOutstanding x f → FlightOk engines f
-  pub engines_apart : (f g : Flight) (e : ℕ) → IsOutstanding x f → IsOutstanding x g → f.engine ≡ Some e → g.engine ≡ Some e → f ≡ g
-  -- 6: a half that is here is equal in both; a half is away exactly where the transfer of that tag names it; no two transfers have
-  -- one half
+  pub engines_apart : (f g : Flight) (e : ℕ) → IsOutstanding x f → IsOutstanding x g → f.engine ≡ Some e
+      → g.engine ≡ Some e → f ≡ g
+  -- 6: a half that is here is equal in both; a half is away exactly where the transfer of that tag names it; no two
+  -- transfers have one half
   pub here : (number half : ℕ) (cells : List ℤ) → x.halves number half ≡ Here cells → cells ≡ y.halves number half
-  pub away : (number half tag : ℕ) → (x.halves number half ≡ Away tag) ↔ ((f : Flight) × (flight_of x.flights tag ≡ Some f) × (f.transfer.fast ≡ number) × (f.transfer.half ≡ half))
-  pub halves_apart : (f g : Flight) → IsOutstanding x f → IsOutstanding x g → f.transfer.fast ≡ g.transfer.fast → f.transfer.half ≡ g.transfer.half → f ≡ g
+  pub away : (number half tag : ℕ)
+      → (x.halves number half ≡ Away tag) ↔ ((f : Flight) × (flight_of x.flights tag ≡ Some f)
+      × (f.transfer.fast ≡ number) × (f.transfer.half ≡ half))
+  pub halves_apart : (f g : Flight) → IsOutstanding x f → IsOutstanding x g → f.transfer.fast ≡ g.transfer.fast
+      → f.transfer.half ≡ g.transfer.half → f ≡ g
   -- 7: the list of an outgoing transfer, and the cells outside an incoming transfer's elements, equal y's half
   pub outgoing_list : (f : Flight) → IsOutstanding x f → f.transfer.incoming ≡ false → f.cells ≡ prompt_half y f
-  pub incoming_list : (f : Flight) → IsOutstanding x f → f.transfer.incoming ≡ true → (c : ℕ) → (c < f.transfer.offset) ⊎ (f.transfer.offset + f.transfer.count ≤ c) → number_at f.cells c ≡ number_at (prompt_half y f) c
+  pub incoming_list : (f : Flight) → IsOutstanding x f → f.transfer.incoming ≡ true → (c : ℕ)
+      → (c < f.transfer.offset) ⊎ (f.transfer.offset + f.transfer.count ≤ c)
+      → number_at f.cells c ≡ number_at (prompt_half y f) c
   -- 8: compute's parts are equal, and the outstanding transfers are the records in order
   pub registers : x.state.registers ≡ y.state.registers
   pub live : x.live ≡ y.live

@@ -29,7 +29,8 @@ computes (Take e t ∷ more) = computes more
 computes (Move e ∷ more) = computes more
 computes (Finish e ∷ more) = computes more
 
--- how many steps of engines an outstanding transfer still takes: the count and two, one to take it and one to let go of it
+-- how many steps of engines an outstanding transfer still takes: the count and two, one to take it and one to let go of
+-- it
 abbrev pub left_by : Option ℕ → ℕ → ℕ → ℕ
 left_by None moved count = if nat_eq moved 0 then count + 2 else 0
 left_by (Some e) moved count = count - moved + 1

@@ -30,8 +30,8 @@ worked_steps = Compute ∷ Compute ∷ Compute ∷ Take 1 0 ∷ Move 1 ∷ Move 
 abbrev pub worked_machine : Machine
 worked_machine = first_machine 2 worked_actions memory
 
--- the actions are orderly, so all orders agree; this run is one, it ends, with the filler 7 in the two places, in as many steps
--- as the prompt meaning says
+-- the actions are orderly, so all orders agree; this run is one, it ends, with the filler 7 in the two places, in as
+-- many steps as the prompt meaning says
 pub record WorkedRun : Type 0 where
   pub orderly : Orderly 4 worked_actions
   pub agree : OrdersAgree (pos 7) 8 worked_actions memory 2

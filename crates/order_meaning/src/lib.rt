@@ -1,7 +1,7 @@
 //! A module's transfers under every order of the engines' steps.
 //!
-//! The machine has the actions of a module beside engines that move its transfers, an element at a time. The law says that
-//! all its orders give what the prompt meaning gives, in as many steps.
+//! The machine has the actions of a module beside engines that move its transfers, an element at a time. The law says
+//! that all its orders give what the prompt meaning gives, in as many steps.
 #![tactic(auto)]
 
 ghost use Rattle.order_meaning.specs.Law.{AllOrdersAgree};

@@ -1,4 +1,4 @@
-use Rattle.affine_driver.proofs.Endings.{TextLaws, ImageLaws, refusals, check, stage, run, one_check, one_plain}
+use Rattle.affine_driver.proofs.Endings.{TextLaws, ImageLaws, exact, one_check, one_plain, one_stage}
 use Rattle.affine_driver.proofs.laws.endings_are_exact.Goals as goal
 
 texts : goal.After-image_texts_are_exact → TextLaws
@@ -15,20 +15,14 @@ images c = record {
   both = c.image_texts_are_exact.ensures.not_both;
 }
 
-pub returns-clause-refusals : goal.returns-clause-refusals
-returns-clause-refusals c = refusals (texts c) (images c)
-
-pub returns-clause-check : goal.returns-clause-check
-returns-clause-check c = check (texts c) (images c)
-
-pub returns-clause-stage : goal.returns-clause-stage
-returns-clause-stage c = stage (texts c) (images c)
-
-pub returns-clause-plain : goal.returns-clause-plain
-returns-clause-plain c = run (texts c) (images c)
+pub returns-clause-exact : goal.returns-clause-exact
+returns-clause-exact c = exact (texts c) (images c)
 
 pub returns-clause-check_output : goal.returns-clause-check_output
 returns-clause-check_output c = one_check (texts c)
 
 pub returns-clause-plain_output : goal.returns-clause-plain_output
 returns-clause-plain_output c = one_plain (texts c) (images c)
+
+pub returns-clause-stage_output : goal.returns-clause-stage_output
+returns-clause-stage_output c = one_stage (texts c)

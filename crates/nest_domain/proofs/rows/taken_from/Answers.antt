@@ -1,4 +1,4 @@
-use Rattle.std.proofs.Common.{rules, ◌≡◌, sym, ap, subst, ◌∙◌}
+use Rattle.std.proofs.Common.{rules, ◌≡◌, ap, subst, ◌∙◌}
 use Rattle.affine_expr.specs.Linear.{Meets, number_form, minus}
 use Rattle.nest_domain.proofs.Divisions.{top_of}
 use Rattle.nest_domain.proofs.rows.taken_from.Goals as goal

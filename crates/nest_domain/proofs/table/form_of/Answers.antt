@@ -1,4 +1,4 @@
-use Rattle.std.proofs.Common.{◌∙◌, sym, ap, subst, Option, None, Some}
+use Rattle.std.proofs.Common.{sym, ap, subst, Option, None, Some}
 use Rattle.affine_expr.specs.Forms.{Form}
 use Rattle.affine_expr.specs.Linear.{Meets, or_wide}
 use Rattle.nest_domain.proofs.Tables.{form_found}

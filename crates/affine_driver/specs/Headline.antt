@@ -1,0 +1,23 @@
+-- The headline: what a call of the program comes to.
+--
+-- Let the words ask for a command (`AsksFor`). Then the source gave some bytes, and where the ending comes behind reading, these are
+-- all that it had; what went out is the command's output of these bytes, whole at `Done` and a proper part of it at `WriteFault`, and
+-- every other ending has its reason in the bytes, or is a fault of the source, its length or want of memory (`Answers`). The bytes
+-- decide: no other refusal has its reason, and where the source has what the command asks for, the output was built (`IsExact`).
+-- The output of `stage` is the text of a valid module that runs as the source's module does, and that of `plain` is the memory which
+-- its direct meaning leaves (`Output`).
+use Rattle.std.specs.Prelude.{ℕ, List, Option}
+use Rattle.affine_driver.specs.declared.command.Command.{Command}
+use Rattle.affine_driver.specs.declared.ending.Ending.{Ending}
+use Rattle.affine_driver.specs.Command.{AsksFor}
+use Rattle.affine_driver.specs.Laws.{IsExact}
+use Rattle.affine_driver.specs.Reading.{Answers}
+
+-- the call answers the command, and the bytes of its source decide the ending
+pub record Decides (limit : ℕ) (command : Command) (ending : Ending) (given left before now : Option (List ℕ)) : Type 0 where
+  pub answers : Answers limit command ending given left before now
+  pub exact : IsExact command answers.bytes ending
+
+-- the words ask for no command
+abbrev pub AskForNothing : List (List ℕ) → Type 0
+AskForNothing words = (command : Command) → AsksFor words command → ⊥

@@ -1,0 +1,14 @@
+use Rattle.std.proofs.Common.{◌≡◌, ◌∙◌, ap, sym, set, pos, rules, w64, SFits}
+use Rattle.std.proofs.lemmas.Int.{to_z-of_z}
+use Rattle.bus_model.specs.Copies.{number_at}
+use Rattle.prompt_run.specs.Memrefs.{halves_at}
+use Rattle.prompt_run.proofs.Copying.{out_more}
+use Rattle.prompt_run.proofs.device.copy_out.Goals as goal
+
+pub loop-element-preserved : goal.loop-element-preserved
+loop-element-preserved c =
+    let t = c.args.transfer.now in
+    let cells = halves_at c.args.fasts.now t.fast t.half in
+    let fits : SFits w64 c.cell_of-value.result = search rules in
+    (λ i. set (c.loop-element.invariant i) (c.slow.ensures i) ((to_z-of_z w64 c.cell_of-value.result fits ∙ c.cell_of-value.ensures) i))
+    ∙ sym (out_more t cells c.args.slow.now c.loop-element.element)

@@ -1,0 +1,6 @@
+pub mod Memrefs
+pub mod Found
+pub mod Held
+pub mod Steps
+pub mod Takes
+pub mod Runs
