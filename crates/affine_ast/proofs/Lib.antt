@@ -4,3 +4,4 @@ pub mod Spellings
 pub mod PlainLaws
 pub mod PlainTolds
 pub mod PlainFaults
+pub mod Parts

@@ -3,20 +3,19 @@ use Rattle.std.proofs.Common.{◌≡◌, ◌+◌, ◌<◌, ◌≤◌, ◌∷◌,
 use Rattle.std.specs.Prelude.{Option, Some, None, is_some, IfNone}
 use Rattle.std.proofs.lemmas.List.{drop_more, drop_all}
 use Rattle.affine_expr.specs.declared.map.Set.{Set}
-use Rattle.int_ops.specs.declared.operation.CastKind.{CastKind}
-use Rattle.int_ops.specs.declared.operation.Op.{Op}
 use Rattle.affine_ast.specs.declared.name.Name.{Name}
 use Rattle.affine_ast.specs.declared.types.Access.{Access}
 use Rattle.affine_ast.specs.declared.types.Bound.{Bound}
 use Rattle.affine_ast.specs.declared.types.MemrefType.{MemrefType}
 use Rattle.affine_ast.specs.declared.types.Pick.{Pick}
-use Rattle.affine_ast.specs.declared.types.Scalar.{Scalar}
 use Rattle.affine_ast.specs.declared.stmt.Stmt.{Stmt}
 use Rattle.affine_ast.specs.declared.stmt.What as what
 use Rattle.affine_ast.specs.declared.stmt.What.{What}
+use Rattle.affine_ast.specs.declared.stmt.What.TheOpen.{What-F}
+use Rattle.affine_ast.specs.declared.stmt.What.TheVariants.{rolls-Value, rolls-Load, rolls-Store, rolls-Alloc, rolls-Dealloc, rolls-Start, rolls-Wait}
 use Rattle.affine_ast.specs.PlainCode.{plain_outcome}
-use Rattle.affine_ast.specs.Nest.{Value, Load, Store, RawLoad, RawStore, Constant, Binary, Cast, Alloc, Dealloc, Start, Wait, Return, Nest, Nothing, put_what, nest}
-use Rattle.affine_ast.proofs.Nests.{nest-nil, nest-cons, put-For, put-If, put-If-else, put-Value, put-Load, put-Store, put-RawLoad, put-RawStore, put-Constant, put-Binary, put-Cast, put-Alloc, put-Dealloc, put-Start, put-Wait, put-Return}
+use Rattle.affine_ast.specs.Nest.{Nest, Nothing, put_what, nest, head_plain, plain_of, is_region}
+use Rattle.affine_ast.proofs.Nests.{nest-nil, nest-cons, put-For, put-If, put-If-else, put_plain, put_what_is}
 use Rattle.affine_ast.specs.PlainLimits.{bound_short, set_short, plain_stands, PlainTold, Counted, then_plain, plain_judged, plain_told}
 
 -- a second region that may be missing
@@ -43,57 +42,10 @@ module _ (line : ℕ) (rest : Nest) (loops count : ℕ) where
   unfolding plain_told
   plain-If-else set names first other = ap told_of (put-If-else line rest set names first other)
 
-  pub plain-Value : (r : Name) (pick : Pick) (at : Access) → plain_told (put_what (what.Value r pick at) line rest) loops count ≡ plain_judged line loops (suc count) (plain_stands (Value r pick at)) (plain_told rest loops (suc count))
+  -- a statement without a region
+  pub plain-any : (w : What) → is_region w ≡ false → plain_told (put_what w line rest) loops count ≡ plain_judged line loops (suc count) (plain_stands (plain_of w)) (plain_told rest loops (suc count))
   unfolding plain_told
-  plain-Value r pick at = ap told_of (put-Value line rest r pick at)
-
-  pub plain-Load : (r m : Name) (at : Access) (ty : MemrefType) → plain_told (put_what (what.Load r m at ty) line rest) loops count ≡ plain_judged line loops (suc count) (plain_stands (Load r m at ty)) (plain_told rest loops (suc count))
-  unfolding plain_told
-  plain-Load r m at ty = ap told_of (put-Load line rest r m at ty)
-
-  pub plain-Store : (x m : Name) (at : Access) (ty : MemrefType) → plain_told (put_what (what.Store x m at ty) line rest) loops count ≡ plain_judged line loops (suc count) (plain_stands (Store x m at ty)) (plain_told rest loops (suc count))
-  unfolding plain_told
-  plain-Store x m at ty = ap told_of (put-Store line rest x m at ty)
-
-  pub plain-RawLoad : (r m : Name) (at : List Name) (ty : MemrefType) → plain_told (put_what (what.RawLoad r m at ty) line rest) loops count ≡ plain_judged line loops (suc count) (plain_stands (RawLoad r m at ty)) (plain_told rest loops (suc count))
-  unfolding plain_told
-  plain-RawLoad r m at ty = ap told_of (put-RawLoad line rest r m at ty)
-
-  pub plain-RawStore : (x m : Name) (at : List Name) (ty : MemrefType) → plain_told (put_what (what.RawStore x m at ty) line rest) loops count ≡ plain_judged line loops (suc count) (plain_stands (RawStore x m at ty)) (plain_told rest loops (suc count))
-  unfolding plain_told
-  plain-RawStore x m at ty = ap told_of (put-RawStore line rest x m at ty)
-
-  pub plain-Constant : (r : Name) (z : ℤ) (ty : Scalar) → plain_told (put_what (what.Constant r z ty) line rest) loops count ≡ plain_judged line loops (suc count) (plain_stands (Constant r z ty)) (plain_told rest loops (suc count))
-  unfolding plain_told
-  plain-Constant r z ty = ap told_of (put-Constant line rest r z ty)
-
-  pub plain-Binary : (r : Name) (op : Op) (a b : Name) (ty : Scalar) → plain_told (put_what (what.Binary r op a b ty) line rest) loops count ≡ plain_judged line loops (suc count) (plain_stands (Binary r op a b ty)) (plain_told rest loops (suc count))
-  unfolding plain_told
-  plain-Binary r op a b ty = ap told_of (put-Binary line rest r op a b ty)
-
-  pub plain-Cast : (r : Name) (kind : CastKind) (x : Name) (from to : Scalar) → plain_told (put_what (what.Cast r kind x from to) line rest) loops count ≡ plain_judged line loops (suc count) (plain_stands (Cast r kind x from to)) (plain_told rest loops (suc count))
-  unfolding plain_told
-  plain-Cast r kind x from to = ap told_of (put-Cast line rest r kind x from to)
-
-  pub plain-Alloc : (r : Name) (ty : MemrefType) → plain_told (put_what (what.Alloc r ty) line rest) loops count ≡ plain_judged line loops (suc count) (plain_stands (Alloc r ty)) (plain_told rest loops (suc count))
-  unfolding plain_told
-  plain-Alloc r ty = ap told_of (put-Alloc line rest r ty)
-
-  pub plain-Dealloc : (m : Name) (ty : MemrefType) → plain_told (put_what (what.Dealloc m ty) line rest) loops count ≡ plain_judged line loops (suc count) (plain_stands (Dealloc m ty)) (plain_told rest loops (suc count))
-  unfolding plain_told
-  plain-Dealloc m ty = ap told_of (put-Dealloc line rest m ty)
-
-  pub plain-Start : (a : Name) (aa : Access) (b : Name) (bb : Access) (t : Name) (ta : Access) (n : Name) (stride : Option (Name × Name)) (types : List MemrefType) → plain_told (put_what (what.Start a aa b bb t ta n stride types) line rest) loops count ≡ plain_judged line loops (suc count) (plain_stands (Start a aa b bb t ta n stride types)) (plain_told rest loops (suc count))
-  unfolding plain_told
-  plain-Start a aa b bb t ta n stride types = ap told_of (put-Start line rest a aa b bb t ta n stride types)
-
-  pub plain-Wait : (t : Name) (at : Access) (n : Name) (ty : MemrefType) → plain_told (put_what (what.Wait t at n ty) line rest) loops count ≡ plain_judged line loops (suc count) (plain_stands (Wait t at n ty)) (plain_told rest loops (suc count))
-  unfolding plain_told
-  plain-Wait t at n ty = ap told_of (put-Wait line rest t at n ty)
-
-  pub plain-Return : plain_told (put_what what.Return line rest) loops count ≡ plain_judged line loops (suc count) (plain_stands Return) (plain_told rest loops (suc count))
-  unfolding plain_told
-  plain-Return = ap told_of (put-Return line rest)
+  plain-any w h = ap told_of (put_plain w line rest h)
 
   pub plain-condition : (set : Set) (names : List Name) (first : List Stmt) (other : Option (List Stmt)) → plain_told (put_what (what.If set names first other) line rest) loops count
       ≡ plain_judged line loops (suc count) (set_short set) (then_plain (plain_told (nest first) loops (suc count)) (λ n. then_plain (plain_told (nest_of_other other) loops n) (plain_told rest loops)))
@@ -143,3 +95,26 @@ none_told rest loops count = refl
 pub when_none : {P : Type 0} (r : Option ℕ) → is_some r ≡ false → IfNone r P → P
 when_none (Some line) h k = absurd (cc)
 when_none None h k = k
+
+-- a statement that has no maps, and is no allocation, dealloc, start or wait
+pub stands_unless : (w : What)
+    → ((r : Name) (pick : Pick) (at : Access) → w ≡ what.Value r pick at → ⊥)
+    → ((r m : Name) (at : Access) (ty : MemrefType) → w ≡ what.Load r m at ty → ⊥)
+    → ((x m : Name) (at : Access) (ty : MemrefType) → w ≡ what.Store x m at ty → ⊥)
+    → ((r : Name) (ty : MemrefType) → w ≡ what.Alloc r ty → ⊥)
+    → ((m : Name) (ty : MemrefType) → w ≡ what.Dealloc m ty → ⊥)
+    → ((a : Name) (aa : Access) (b : Name) (bb : Access) (t : Name) (ta : Access) (n : Name) (stride : Option (Name × Name)) (types : List MemrefType) → w ≡ what.Start a aa b bb t ta n stride types → ⊥)
+    → ((t : Name) (at : Access) (n : Name) (ty : MemrefType) → w ≡ what.Wait t at n ty → ⊥)
+    → plain_stands (plain_of w) ≡ true
+unfolding plain_of
+stands_unless w value load store alloc dealloc start wait = by (what.out-What w) (what.roll-out-What w)
+  where
+    by : (x : What-F What Stmt) → what.roll-What x ≡ w → plain_stands (head_plain (put_what w 0 Nothing)) ≡ true
+    by (What-F.Value r pick at) e = absurd (value r pick at (sym e ∙ rolls-Value r pick at))
+    by (What-F.Load r m at ty) e = absurd (load r m at ty (sym e ∙ rolls-Load r m at ty))
+    by (What-F.Store x m at ty) e = absurd (store x m at ty (sym e ∙ rolls-Store x m at ty))
+    by (What-F.Alloc r ty) e = absurd (alloc r ty (sym e ∙ rolls-Alloc r ty))
+    by (What-F.Dealloc m ty) e = absurd (dealloc m ty (sym e ∙ rolls-Dealloc m ty))
+    by (What-F.Start a aa b bb t ta n stride types) e = absurd (start a aa b bb t ta n stride types (sym e ∙ rolls-Start a aa b bb t ta n stride types))
+    by (What-F.Wait t at n ty) e = absurd (wait t at n ty (sym e ∙ rolls-Wait t at n ty))
+    by x e = ap (λ n. plain_stands (head_plain n)) (put_what_is 0 Nothing x w e)

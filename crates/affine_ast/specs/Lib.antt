@@ -1,5 +1,6 @@
 pub mod Names
 pub mod Nest
+pub mod Parts
 pub mod Spelling
 pub mod Sizes
 pub mod Intervals

@@ -100,3 +100,22 @@ put_stmt = fold-Stmt (ℕ → Puts) Puts put_layer put_stmt_layer
 unfoldable pub nest : List Stmt → Nest
 nest [] = Nothing
 nest (s ∷ ss) = put_stmt s (nest ss)
+
+-- ---- statements without a region
+
+abbrev pub head_plain : Nest → Plain
+head_plain (Does line p rest) = p
+head_plain n = Return
+
+abbrev pub head_is_region : Nest → Bool
+head_is_region (Loop line v l u s body rest) = true
+head_is_region (Branch line set names first has other rest) = true
+head_is_region n = false
+
+-- a statement as the plain one that it is; a loop or a condition as a `return`, of which nothing is asked
+unfoldable pub plain_of : What → Plain
+plain_of w = head_plain (put_what w 0 Nothing)
+
+-- whether a statement is a loop or a condition
+unfoldable pub is_region : What → Bool
+is_region w = head_is_region (put_what w 0 Nothing)

@@ -10,7 +10,8 @@ use Rattle.affine_ast.specs.declared.module.Module.{Module}
 use Rattle.affine_ast.specs.declared.types.Access.{Access}
 use Rattle.affine_ast.specs.declared.types.Bound.{Bound}
 use Rattle.affine_ast.specs.declared.types.Bound.TheVariants as bound
-use Rattle.affine_ast.specs.Nest.{Plain, Nest, Nothing, Loop, Branch, Does, Value, Load, Store, Alloc, Dealloc, Start, Wait, nest}
+use Rattle.affine_ast.specs.Nest.{Plain, Nest, Nothing, Loop, Branch, Does, Alloc, Dealloc, Start, Wait, nest}
+use Rattle.affine_ast.specs.Parts.{every, maps_of}
 
 -- the operands of an expression: its integers and its leaves
 abbrev pub operands_step : Expr-F ℕ → ℕ
@@ -86,14 +87,11 @@ bound_short (bound.Map at) = access_short at
 
 -- a plain statement: no allocation, dealloc, start or wait
 abbrev pub plain_stands : Plain → Bool
-plain_stands (Value r pick at) = access_short at
-plain_stands (Load r m at ty) = access_short at
-plain_stands (Store x m at ty) = access_short at
 plain_stands (Alloc r ty) = false
 plain_stands (Dealloc m ty) = false
 plain_stands (Start x x_at y y_at t t_at n stride types) = false
 plain_stands (Wait t at n ty) = false
-plain_stands p = true
+plain_stands p = every access_short (maps_of p)
 
 -- the first statement that breaks the rule, by its line, or how many statements stand before what follows
 pub data PlainTold : Type 0 where

@@ -24,13 +24,10 @@ use Rattle.affine_ast.specs.declared.types.Scalar.{Scalar}
 use Rattle.affine_ast.specs.declared.types.Scalar.TheVariants.{Int, Index}
 use Rattle.affine_ast.specs.Names.{same_name}
 use Rattle.affine_ast.specs.Nest.{Plain, Nest, Nothing, Loop, Branch, Does, Value, Load, Store, RawLoad, RawStore, Constant, Binary, Cast, Alloc, Dealloc, Start, Wait, Return}
+pub use Rattle.affine_ast.specs.Parts.{stride_names}
+use Rattle.affine_ast.specs.Parts.{every, result_of, maps_of}
 use Rattle.affine_ast.specs.Scope.{Binding, Variable, Symbol, IndexConstant, Data, MemrefArgument, Allocation, Scope, ranges_in, Totals, Around}
 use Rattle.affine_ast.specs.Sizes.{element_bits, scalar_bits}
-
--- the stride and the chunk of a transfer, where it has them
-abbrev pub stride_names : Option (Name × Name) → List Name
-stride_names None = []
-stride_names (Some two) = two.0 ∷ two.1 ∷ []
 
 -- ---- V1: every value used is in scope
 
@@ -70,15 +67,12 @@ uses_in_scope s Return = true
 abbrev pub is_new : Scope → Name → Bool
 is_new s n = not (is_in s n)
 
+abbrev pub is_new_result : Scope → Option Name → Bool
+is_new_result s None = true
+is_new_result s (Some r) = is_new s r
+
 abbrev pub defines_new : Scope → Plain → Bool
-defines_new s (Value r pick at) = is_new s r
-defines_new s (Load r m at ty) = is_new s r
-defines_new s (RawLoad r m at ty) = is_new s r
-defines_new s (Constant r z ty) = is_new s r
-defines_new s (Binary r op x y ty) = is_new s r
-defines_new s (Cast r kind x from to) = is_new s r
-defines_new s (Alloc r ty) = is_new s r
-defines_new s p = true
+defines_new s p = is_new_result s (result_of p)
 
 -- ---- V4: a dimension is a loop variable, an index argument, an index constant, or a result of `affine.apply`, `min`, `max`;
 -- a symbol is an index argument or index constant; a memref stands only where a memref is asked for
@@ -270,12 +264,7 @@ abbrev pub step_positive : ℤ → Bool
 step_positive step = int_lt (pos 0) step
 
 abbrev pub maps_pure : Plain → Bool
-maps_pure (Value r pick at) = access_pure at
-maps_pure (Load r m at ty) = access_pure at
-maps_pure (Store x m at ty) = access_pure at
-maps_pure (Start x x_at y y_at t t_at n stride types) = access_pure x_at && (access_pure y_at && access_pure t_at)
-maps_pure (Wait t at n ty) = access_pure at
-maps_pure p = true
+maps_pure p = every access_pure (maps_of p)
 
 -- ---- V9: every affine subexpression, integer bound, `copy.range` and constant dimension has an interval within -2^62 to 2^62
 
@@ -313,12 +302,7 @@ bound_bounded s (bound.Value n) = is_small_dimension s n
 bound_bounded s (bound.Map at) = access_bounded s at
 
 abbrev pub maps_bounded : Scope → Plain → Bool
-maps_bounded s (Value r pick at) = access_bounded s at
-maps_bounded s (Load r m at ty) = access_bounded s at
-maps_bounded s (Store x m at ty) = access_bounded s at
-maps_bounded s (Start x x_at y y_at t t_at n stride types) = access_bounded s x_at && (access_bounded s y_at && access_bounded s t_at)
-maps_bounded s (Wait t at n ty) = access_bounded s at
-maps_bounded s p = true
+maps_bounded s p = every (access_bounded s) (maps_of p)
 
 -- ---- V10: arguments are in space 0, allocations in 1 or 2, tags hold `i32` in space 2; loads and stores use space 0 or 1; a
 -- transfer goes between spaces 0 and 1, its tag is in 2; count, stride and chunk are index constants, count >= 1,

@@ -9,7 +9,8 @@ use Rattle.affine_ast.specs.declared.types.Scalar.{Scalar}
 use Rattle.affine_ast.specs.declared.types.Scalar.TheVariants.{Int, Index}
 use Rattle.affine_ast.specs.Names.{put}
 use Rattle.affine_ast.specs.Intervals.{Ranges, ranges_at, picked_range, first_turn, last_end, turn_range}
-use Rattle.affine_ast.specs.Nest.{Plain, Value, Load, Store, RawLoad, RawStore, Constant, Binary, Cast, Alloc, Dealloc, Start, Wait, Return}
+use Rattle.affine_ast.specs.Nest.{Plain}
+use Rattle.affine_ast.specs.Parts.{Effect, NewIndex, NewConstant, NewData, NewMemref, Released, Unchanged, effect_of}
 use Rattle.affine_ast.specs.Sizes.{product}
 
 -- what a name in scope stands for
@@ -98,18 +99,15 @@ tags_of space n = if nat_eq space 2 then n else 0
 abbrev pub totals_with : MemrefType → Totals → Totals
 totals_with ty t = record t { allocated = t.allocated + product ty.sizes; tags = t.tags + tags_of ty.space (product ty.sizes) }
 
+-- what a plain statement does to what stands round the one behind it
+abbrev pub behind_effect : Effect → Around → Around
+behind_effect (NewIndex r pick at) a = with_name r (Variable (picked_range pick (ranges_at (ranges_in a.scope) at))) a
+behind_effect (NewConstant r z ty) a = with_name r (binding_of_constant z ty) a
+behind_effect (NewData r ty) a = with_name r (Data ty) a
+behind_effect (NewMemref r ty) a = with_name r (Allocation ty) (with_totals (totals_with ty a.totals) a)
+behind_effect (Released m) a = record a { released = put a.released m true }
+behind_effect Unchanged a = a
+
 -- what stands round the statement behind a plain one
 abbrev pub behind_plain : Plain → Around → Around
-behind_plain (Value r pick at) a = with_name r (Variable (picked_range pick (ranges_at (ranges_in a.scope) at))) a
-behind_plain (Load r m at ty) a = with_name r (Data (Int ty.element)) a
-behind_plain (Store x m at ty) a = a
-behind_plain (RawLoad r m at ty) a = with_name r (Data (Int ty.element)) a
-behind_plain (RawStore x m at ty) a = a
-behind_plain (Constant r z ty) a = with_name r (binding_of_constant z ty) a
-behind_plain (Binary r op x y ty) a = with_name r (Data ty) a
-behind_plain (Cast r kind x from to) a = with_name r (Data to) a
-behind_plain (Alloc r ty) a = with_name r (Allocation ty) (with_totals (totals_with ty a.totals) a)
-behind_plain (Dealloc m ty) a = record a { released = put a.released m true }
-behind_plain (Start x x_at y y_at t t_at n stride types) a = a
-behind_plain (Wait t at n ty) a = a
-behind_plain Return a = a
+behind_plain p a = behind_effect (effect_of p) a

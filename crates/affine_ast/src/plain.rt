@@ -1,8 +1,8 @@
 // The limits of modules that are staged or run directly.
 ghost use Rattle.std.specs.Prelude.{◌≡◌, ℕ, ◌+◌, ◌≤◌, suc, min, max, true, ◌&&◌, IfNone, IfSome};
-ghost use Rattle.affine_ast.specs.Nest.{Nest, nest, put_what};
+ghost use Rattle.affine_ast.specs.Nest.{Nest, nest, put_what, plain_of};
 ghost use Rattle.affine_ast.specs.PlainCode.{depth_at, plain_outcome, judged_outcome};
-ghost use Rattle.affine_ast.specs.PlainLimits.{operand_count, depths, sum_depths, product_depths, literal_depths, is_short, access_short, set_short, bound_short, row_short, plain_judged, then_plain, plain_told, PlainTold};
+ghost use Rattle.affine_ast.specs.PlainLimits.{operand_count, depths, sum_depths, product_depths, literal_depths, is_short, access_short, set_short, bound_short, row_short, plain_judged, plain_stands, then_plain, plain_told, PlainTold};
 
 use crate::stmt::{Stmt, What};
 use crate::types::{Access, Bound};
@@ -199,6 +199,23 @@ fn bound_short(bound: &Bound) -> bool
     }
 }
 
+/// Whether a statement without a region may stand: no allocation, dealloc, start or wait, and short expressions.
+#[tactic(auto, using(crate::proofs::Nests::plains))]
+fn stands(what: &What) -> bool
+    ensures { result ≡ plain_stands (plain_of what.now) }
+{
+    match what {
+        What::Value { at, .. } => access_short(at),
+        What::Load { at, .. } => access_short(at),
+        What::Store { at, .. } => access_short(at),
+        What::Alloc { .. } => false,
+        What::Dealloc { .. } => false,
+        What::Start { .. } => false,
+        What::Wait { .. } => false,
+        _ => true,
+    }
+}
+
 /// Counts a statement, and answers its line where it breaks the limits or doesn't stand by itself.
 fn judged(line: u32, stands: bool, loops: u32, counted: &mut u32) -> Option<u32>
     requires { counted.old ≤ 4096 }
@@ -302,19 +319,7 @@ fn stmt_fault(stmt: &Stmt, loops: u32, counted: &mut u32) -> Option<u32>
                 Some(other) => list_fault(other.as_slice(), loops, counted),
             }
         }
-        What::Value { at, .. } => plain_fault(line, access_short(at), loops, counted),
-        What::Load { at, .. } => plain_fault(line, access_short(at), loops, counted),
-        What::Store { at, .. } => plain_fault(line, access_short(at), loops, counted),
-        What::RawLoad { .. } => plain_fault(line, true, loops, counted),
-        What::RawStore { .. } => plain_fault(line, true, loops, counted),
-        What::Constant { .. } => plain_fault(line, true, loops, counted),
-        What::Binary { .. } => plain_fault(line, true, loops, counted),
-        What::Cast { .. } => plain_fault(line, true, loops, counted),
-        What::Alloc { .. } => plain_fault(line, false, loops, counted),
-        What::Dealloc { .. } => plain_fault(line, false, loops, counted),
-        What::Start { .. } => plain_fault(line, false, loops, counted),
-        What::Wait { .. } => plain_fault(line, false, loops, counted),
-        What::Return => plain_fault(line, true, loops, counted),
+        _ => plain_fault(line, stands(&stmt.what), loops, counted),
     }
 }
 

@@ -11,15 +11,15 @@ use Rattle.affine_ast.specs.declared.stmt.Stmt.{Stmt}
 use Rattle.affine_ast.specs.declared.stmt.What as what
 use Rattle.affine_ast.specs.declared.stmt.What.{What}
 use Rattle.affine_ast.specs.declared.stmt.What.TheOpen.{What-F}
+use Rattle.affine_ast.specs.declared.stmt.What.TheVariants.{rolls-Alloc, rolls-Dealloc}
 use Rattle.affine_ast.specs.Names.{same_name, put}
-use Rattle.affine_ast.specs.Nest.{Nest, Nothing, Loop, Branch, Does, Dealloc, Puts, put_layer, put_what, put_stmt, nest}
+use Rattle.affine_ast.specs.Nest.{Nest, Nothing, Loop, Branch, Does, Dealloc, Puts, put_layer, put_what, put_stmt, nest, head_plain, plain_of, is_region}
 use Rattle.affine_ast.specs.Rules.{deallocs, own_deallocs, is_dealloc_of, is_released_once}
 use Rattle.affine_ast.proofs.Names.{same_name-eq, same_name-is, put-same, put-other}
 use Rattle.affine_ast.proofs.Nests.{nest-cons, nest-nil, put_what_is}
 use Rattle.affine_rules.specs.Scoped.{names_of}
 use Rattle.affine_verify.specs.declared.release.Deallocs.{Deallocs}
 use Rattle.affine_verify.specs.Deallocs.{deallocs_in, once_of, once_each, Lists}
-use Rattle.affine_verify.specs.Plains.{plain_of, is_region}
 use Rattle.affine_verify.proofs.Plains.{plain_step, own_step, loop_step, if_step, else_step}
 
 -- the statements that are left, by the first of them
@@ -35,19 +35,7 @@ layer_deallocs : (m : Name) (x : What-F (ℕ → Puts) Puts) (line : ℕ) (rest 
 unfolding deallocs
 layer_deallocs m (What-F.For v l u s body) line rest = omega arith
 layer_deallocs m (What-F.If set names first other) line rest = omega arith
-layer_deallocs m (What-F.Value r pick at) line rest = omega arith
-layer_deallocs m (What-F.Load r n at ty) line rest = omega arith
-layer_deallocs m (What-F.Store x n at ty) line rest = omega arith
-layer_deallocs m (What-F.RawLoad r n at ty) line rest = omega arith
-layer_deallocs m (What-F.RawStore x n at ty) line rest = omega arith
-layer_deallocs m (What-F.Constant r z ty) line rest = omega arith
-layer_deallocs m (What-F.Binary r op a b ty) line rest = omega arith
-layer_deallocs m (What-F.Cast r kind x from to) line rest = omega arith
-layer_deallocs m (What-F.Alloc r ty) line rest = omega arith
-layer_deallocs m (What-F.Dealloc n ty) line rest = omega arith
-layer_deallocs m (What-F.Start a aa b bb t ta n stride types) line rest = omega arith
-layer_deallocs m (What-F.Wait t at n ty) line rest = omega arith
-layer_deallocs m What-F.Return line rest = omega arith
+layer_deallocs m x line rest = omega arith
 
 -- those of a statement, and those behind it
 pub all_step : (m : Name) (w : What) (line : ℕ) (rest : Nest) → deallocs m (put_what w line rest) ≡ deallocs_in m w + deallocs m rest
@@ -280,3 +268,22 @@ pub some_rest : (n : Name) (ty : MemrefType) (b : Bool) → (rest : Nest) × (b 
 unfolding is_released_once deallocs own_deallocs
 some_rest n ty true = (Does 0 (Dealloc n ty) Nothing, rw (same_name-is n n refl))
 some_rest n ty false = (Nothing, refl)
+
+-- ---- a statement that is no allocation and no dealloc
+
+module _ (w : What) (no_alloc : (r : Name) (ty : MemrefType) → w ≡ what.Alloc r ty → ⊥) (no_dealloc : (m : Name) (ty : MemrefType) → w ≡ what.Dealloc m ty → ⊥) where
+  pub other_own : (m : Name) → is_dealloc_of m (plain_of w) ≡ 0
+  unfolding plain_of
+  other_own m = by (what.out-What w) (what.roll-out-What w)
+    where
+      by : (x : What-F What Stmt) → what.roll-What x ≡ w → is_dealloc_of m (head_plain (put_what w 0 Nothing)) ≡ 0
+      by (What-F.Dealloc n ty) e = absurd (no_dealloc n ty (sym e ∙ rolls-Dealloc n ty))
+      by x e = ap (λ n. is_dealloc_of m (head_plain n)) (put_what_is 0 Nothing x w e)
+
+  pub other_once : (rest : Nest) → once_of (plain_of w) rest ≡ true
+  unfolding plain_of
+  other_once rest = by (what.out-What w) (what.roll-out-What w)
+    where
+      by : (x : What-F What Stmt) → what.roll-What x ≡ w → once_of (head_plain (put_what w 0 Nothing)) rest ≡ true
+      by (What-F.Alloc r ty) e = absurd (no_alloc r ty (sym e ∙ rolls-Alloc r ty))
+      by x e = ap (λ n. once_of (head_plain n) rest) (put_what_is 0 Nothing x w e)

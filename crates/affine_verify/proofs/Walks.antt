@@ -8,9 +8,10 @@ use Rattle.affine_ast.specs.declared.types.Bound.{Bound}
 use Rattle.affine_ast.specs.declared.stmt.Stmt.{Stmt}
 use Rattle.affine_ast.specs.declared.stmt.What as what
 use Rattle.affine_ast.specs.declared.stmt.What.{What}
-use Rattle.affine_ast.specs.Nest.{Plain, Value, Load, Store, RawLoad, RawStore, Constant, Binary, Cast, Alloc, Dealloc, Start, Wait, Return, Nest, Nothing, nest, put_what}
+use Rattle.affine_ast.specs.Nest.{Nest, Nothing, nest, put_what, plain_of, is_region}
+use Rattle.affine_ast.specs.Parts.{Effect, NewIndex, effect_of}
 use Rattle.affine_ast.specs.Rules.{text_within, is_in, bound_fits, bound_pure, bound_bounded, step_positive, are_in, operands_stand, set_fits, set_pure, set_bounded}
-use Rattle.affine_ast.specs.Scope.{Totals, Around, counted, in_loop, in_condition, with_totals, behind_plain}
+use Rattle.affine_ast.specs.Scope.{Totals, Around, counted, in_loop, in_condition, with_totals, behind_effect, behind_plain}
 use Rattle.affine_ast.specs.Validity.{Told, Broken, Passed, judged, then_told, told, rule_of_plain, rule_of_loop, rule_of_condition}
 use Rattle.affine_ast.proofs.Nests.{put-For, put-If, put-If-else, nest-nil}
 use Rattle.affine_rules.specs.declared.scope.Scoped.{Scoped}
@@ -19,8 +20,7 @@ use Rattle.affine_rules.specs.Scoped.{around_of, totals_of, scope_of, names_of}
 use Rattle.affine_verify.specs.declared.fault.VerifyFault.{VerifyFault}
 use Rattle.affine_verify.specs.declared.fault.VerifyFault.TheVariants.{Invalid, Memory}
 use Rattle.affine_verify.specs.Comes.{Comes, Steps, Extends, Plainly, Enters}
-use Rattle.affine_verify.specs.Plains.{plain_of, is_region}
-use Rattle.affine_verify.proofs.Plains.{put_plain}
+use Rattle.affine_ast.proofs.Nests.{put_plain}
 use Rattle.affine_verify.proofs.Released.{rest_step, rest_end}
 use Rattle.affine_verify.proofs.PlainlyLaws.{holds, rule_held, extends_self}
 
@@ -74,20 +74,9 @@ extends_both a b c e f = record {
 
 -- ---- plain statements
 
-statements_kept : (p : Plain) (a : Around) → (behind_plain p a).totals.statements ≡ a.totals.statements
-statements_kept (Value r pick at) a = refl
-statements_kept (Load r m at ty) a = refl
-statements_kept (Store x m at ty) a = refl
-statements_kept (RawLoad r m at ty) a = refl
-statements_kept (RawStore x m at ty) a = refl
-statements_kept (Constant r z ty) a = refl
-statements_kept (Binary r op x y ty) a = refl
-statements_kept (Cast r kind x from to) a = refl
-statements_kept (Alloc r ty) a = refl
-statements_kept (Dealloc m ty) a = refl
-statements_kept (Start x xa y ya t ta n stride types) a = refl
-statements_kept (Wait t at n ty) a = refl
-statements_kept Return a = refl
+statements_kept : (x : Effect) (a : Around) → (behind_effect x a).totals.statements ≡ a.totals.statements
+statements_kept (NewIndex r pick at) a = refl
+statements_kept x a = refl
 
 within_text : (a : Around) → text_within a ≡ true → a.totals.statements ≤ 65536
 within_text a h = let two = and_parts (nat_le a.totals.statements 65536) (nat_le a.loops 16 && nat_le a.ifs 16) h in grind (arith, two.0)
@@ -108,7 +97,7 @@ module _ (w : What) (line : ℕ) (rest : Nest) (old mid new : Scoped) (region : 
 
   pub plain_small : (r : Result (Unit {0}) VerifyFault) → Plainly r line (plain_of w) rest mid new → OnOk r (new.totals.statements ≤ 65536)
   plain_small (Ok done) h =
-      subst (λ n. n ≤ 65536) (sym (statements_kept (plain_of w) (around_of mid)) ∙ ap (λ a. a.totals.statements) (sym h.1)) (within_text (around_of mid) (holds (around_of mid) (plain_of w) rest h.0).text)
+      subst (λ n. n ≤ 65536) (sym (statements_kept (effect_of (plain_of w)) (around_of mid)) ∙ ap (λ a. a.totals.statements) (sym h.1)) (within_text (around_of mid) (holds (around_of mid) (plain_of w) rest h.0).text)
   plain_small (Err (Invalid at number)) h = tt
   plain_small (Err Memory) h = tt
 

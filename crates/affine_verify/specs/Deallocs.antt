@@ -10,7 +10,7 @@ use Rattle.affine_rules.specs.Scoped.{names_of}
 use Rattle.affine_verify.specs.declared.release.Role.{Role}
 use Rattle.affine_verify.specs.declared.release.Role.TheVariants as role
 use Rattle.affine_verify.specs.declared.release.Deallocs.{Deallocs}
-use Rattle.affine_verify.specs.Plains.{plain_of}
+use Rattle.affine_ast.specs.Nest.{plain_of}
 
 -- whether what a statement allocates, if anything, is released exactly once in the rest of its region, in the region itself
 abbrev pub once_of : Plain → Nest → Bool

@@ -1,3 +1,2 @@
 pub mod Comes
-pub mod Plains
 pub mod Deallocs

@@ -3,11 +3,10 @@
 ghost use Rattle.std.specs.Prelude.{◌≡◌, ◌||◌, ◌&&◌, nat_lt, true, false, IfOk, OnOk};
 ghost use Rattle.affine_ast.specs.declared.name.Name.{Name};
 ghost use Rattle.affine_ast.specs.Names.{put, same_name};
-ghost use Rattle.affine_ast.specs.Nest.{Nest, Nothing, nest, put_what};
+ghost use Rattle.affine_ast.specs.Nest.{Nest, Nothing, nest, put_what, plain_of, is_region};
 ghost use Rattle.affine_ast.specs.Rules.{is_dealloc_of, deallocs, is_released_once};
 ghost use Rattle.affine_rules.specs.Scoped.{names_of};
 ghost use Rattle.affine_verify.specs.Deallocs.{once_of, once_each, deallocs_in, role_own, role_once, is_region_role, Lists};
-ghost use Rattle.affine_verify.specs.Plains.{plain_of, is_region};
 
 use affine_ast::{Name, Stmt, What};
 use affine_rules::{Key, is_released, release};
@@ -25,7 +24,7 @@ pub(crate) enum Role<'a> {
     Other,
 }
 
-#[tactic(auto, using(crate::proofs::Plains::plains, crate::proofs::Plains::regions))]
+#[tactic(auto, using(affine_ast::proofs::Nests::plains, affine_ast::proofs::Nests::regions))]
 fn role_of(what: &What) -> Role<'_>
     ensures own { (m : Name) → is_dealloc_of m (plain_of what.now) ≡ role_own result m }
     ensures once { (rest : Nest) → once_of (plain_of what.now) rest ≡ role_once result rest }
@@ -36,17 +35,7 @@ fn role_of(what: &What) -> Role<'_>
         What::Dealloc { memref, .. } => Role::Dealloc(memref),
         What::For { .. } => Role::Region,
         What::If { .. } => Role::Region,
-        What::Value { .. } => Role::Other,
-        What::Load { .. } => Role::Other,
-        What::Store { .. } => Role::Other,
-        What::RawLoad { .. } => Role::Other,
-        What::RawStore { .. } => Role::Other,
-        What::Constant { .. } => Role::Other,
-        What::Binary { .. } => Role::Other,
-        What::Cast { .. } => Role::Other,
-        What::Start { .. } => Role::Other,
-        What::Wait { .. } => Role::Other,
-        What::Return => Role::Other,
+        _ => Role::Other,
     }
 }
 
@@ -78,7 +67,7 @@ fn note_plain<'a>(
 
 /// Notes the names of the deallocs in a statement, at every depth.
 #[cycle(noted)]
-#[tactic(auto, using(crate::proofs::Plains::plains))]
+#[tactic(auto, using(affine_ast::proofs::Nests::plains))]
 fn note_stmt<'a>(
     names: &mut IndexSet<Key<'a>, NameHashing>,
     stmt: &'a Stmt,
@@ -94,19 +83,7 @@ fn note_stmt<'a>(
                 Some(other) => note_list(names, other.as_slice()),
             }
         }
-        What::Dealloc { .. } => note_plain(names, &stmt.what),
-        What::Value { .. } => note_plain(names, &stmt.what),
-        What::Load { .. } => note_plain(names, &stmt.what),
-        What::Store { .. } => note_plain(names, &stmt.what),
-        What::RawLoad { .. } => note_plain(names, &stmt.what),
-        What::RawStore { .. } => note_plain(names, &stmt.what),
-        What::Constant { .. } => note_plain(names, &stmt.what),
-        What::Binary { .. } => note_plain(names, &stmt.what),
-        What::Cast { .. } => note_plain(names, &stmt.what),
-        What::Alloc { .. } => note_plain(names, &stmt.what),
-        What::Start { .. } => note_plain(names, &stmt.what),
-        What::Wait { .. } => note_plain(names, &stmt.what),
-        What::Return => note_plain(names, &stmt.what),
+        _ => note_plain(names, &stmt.what),
     }
 }
 

@@ -1,12 +1,11 @@
 // The statements in text order.
 ghost use Rattle.std.specs.Prelude.{◌≡◌, ◌≤◌, take, length, OnOk, false};
-ghost use Rattle.affine_ast.specs.Nest.{Nest, nest, put_what};
+ghost use Rattle.affine_ast.specs.Nest.{Nest, nest, put_what, plain_of, is_region};
 ghost use Rattle.affine_ast.specs.Scope.{counted, in_loop, in_condition};
 ghost use Rattle.affine_ast.specs.Validity.{told, rule_of_loop, rule_of_condition};
 ghost use Rattle.affine_rules.specs.Scoped.{around_of, totals_of};
 ghost use Rattle.affine_verify.specs.Comes.{Comes, Steps, Extends, Plainly, Enters};
 ghost use Rattle.affine_verify.specs.Deallocs.{once_of};
-ghost use Rattle.affine_verify.specs.Plains.{plain_of, is_region};
 
 use crate::fault::{VerifyFault, judged};
 use crate::plain::{
@@ -222,7 +221,7 @@ fn simple_stmt<'a>(
 }
 
 #[cycle(walk)]
-#[tactic(auto, using(crate::proofs::Plains::plains))]
+#[tactic(auto, using(affine_ast::proofs::Nests::plains))]
 fn step<'a>(
     alloc: Global,
     stmt: &'a Stmt,

@@ -27,11 +27,12 @@ use Rattle.affine_ast.specs.declared.types.MemrefType.{MemrefType}
 use Rattle.affine_ast.specs.Names.{same_name, put}
 use Rattle.affine_ast.proofs.Names.{put-same, put-other}
 use Rattle.affine_ast.specs.Rules.{access_pure, bound_pure}
-use Rattle.affine_ast.specs.Nest.{Plain, Nest, Nothing, Loop, Branch, Does, Value, Load, Store, RawLoad, RawStore, Constant, Binary, Cast, Alloc, Dealloc, Start, Wait, Return, nest}
+use Rattle.affine_ast.specs.Nest.{Plain, Nest, Nothing, Loop, Branch, Does, Value, nest}
+use Rattle.affine_ast.specs.Parts.{Effect, NewIndex, NewConstant, NewData, NewMemref, effect_of}
 use Rattle.direct_meaning.specs.Static.{Env, knows, number, numbers, results_of, least, greatest, picked, lower_of, upper_of}
-use Rattle.direct_meaning.specs.Actions.{after_plain, behind, is_fast, after_alloc, after_constant}
+use Rattle.direct_meaning.specs.Actions.{after_effect, after_plain, behind, is_fast, after_alloc, after_constant}
 use Rattle.direct_meaning.specs.Memory.{FitsArg, FitsArgs, Placed, place_kind, place_arg, empty_env, start_env, module_actions, range_or, Fits}
-use Rattle.direct_meaning.specs.Work.{Ranges, ranges_at, over_all, picked_range, first_turn, last_end, turn_range, ranges_after, ranges_after_constant, arg_ranges, start_ranges, work}
+use Rattle.direct_meaning.specs.Work.{Ranges, ranges_at, over_all, picked_range, first_turn, last_end, turn_range, ranges_effect, ranges_after, ranges_after_constant, arg_ranges, start_ranges, work}
 use Rattle.direct_meaning.specs.Bounded.{TurnsBounded}
 use Rattle.direct_meaning.specs.Pure.{AffinePlain, AffineNest}
 use Rattle.direct_meaning.specs.WorkLaw.{ActionsWithinWork}
@@ -165,21 +166,25 @@ constant_in : (e : Env) (rho : Ranges) (r : Name) (z : ℤ) (ty : Scalar) → Ra
 constant_in e rho r z (scalar.Int element) h = put_in e rho r None (only (pos 0)) zero_in h
 constant_in e rho r z scalar.Index h = put_in e rho r (Some z) (only z) (self_in z) h
 
+-- what a statement's value asks of its map
+abbrev AffineEffect : Effect → Type 0
+AffineEffect (NewIndex r pick at) = access_pure at ≡ true
+AffineEffect x = Unit {0}
+
+affine_effect : (p : Plain) → AffinePlain p → AffineEffect (effect_of p)
+affine_effect (Value r pick at) h = h
+affine_effect p h = tt
+
+effect_in : (x : Effect) (e : Env) (rho : Ranges) → AffineEffect x → RangesHold e rho → RangesHold (after_effect x e) (ranges_effect x rho)
+effect_in (NewIndex r pick at) e rho a h = put_in e rho r (Some (picked pick (results_of e at))) (picked_range pick (ranges_at rho at)) (picked_in pick (results_of e at) (ranges_at rho at) (results_in e rho at h a)) h
+effect_in (NewConstant r z ty) e rho a h = constant_in e rho r z ty h
+effect_in (NewData r ty) e rho a h = put_in e rho r None (only (pos 0)) zero_in h
+effect_in (NewMemref r ty) e rho a h = alloc_in e rho r ty h
+effect_in x e rho a h = h
+
 pub plain_in : (p : Plain) (e : Env) (rho : Ranges) → AffinePlain p → RangesHold e rho → RangesHold (after_plain p e) (ranges_after p rho)
 unfolding after_plain
-plain_in (Value r pick at) e rho a h = put_in e rho r (Some (picked pick (results_of e at))) (picked_range pick (ranges_at rho at)) (picked_in pick (results_of e at) (ranges_at rho at) (results_in e rho at h a)) h
-plain_in (Load r m at ty) e rho a h = put_in e rho r None (only (pos 0)) zero_in h
-plain_in (Store x m at ty) e rho a h = h
-plain_in (RawLoad r m at ty) e rho a h = put_in e rho r None (only (pos 0)) zero_in h
-plain_in (RawStore x m at ty) e rho a h = h
-plain_in (Constant r z ty) e rho a h = constant_in e rho r z ty h
-plain_in (Binary r op x y ty) e rho a h = put_in e rho r None (only (pos 0)) zero_in h
-plain_in (Cast r kind x from to) e rho a h = put_in e rho r None (only (pos 0)) zero_in h
-plain_in (Alloc r ty) e rho a h = alloc_in e rho r ty h
-plain_in (Dealloc m ty) e rho a h = h
-plain_in (Start x x_at y y_at t t_at n stride types) e rho a h = h
-plain_in (Wait t at n ty) e rho a h = h
-plain_in Return e rho a h = h
+plain_in p e rho a h = effect_in (effect_of p) e rho (affine_effect p a) h
 
 -- so every loop that the walk comes to has no more turns than its ranges say
 pub affine_bounded : (n : Nest) (e : Env) (rho : Ranges) → AffineNest n → RangesHold e rho → TurnsBounded n e rho

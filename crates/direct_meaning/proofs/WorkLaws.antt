@@ -5,7 +5,7 @@ use Rattle.std.specs.Int.{int_max}
 use Rattle.std.proofs.lemmas.Int.{ints}
 use Rattle.std.proofs.lemmas.List.{length-append}
 use Rattle.affine_ast.specs.Names.{put}
-use Rattle.affine_ast.specs.Nest.{Plain, Nest, Nothing, Loop, Branch, Does, Value, Load, Store, RawLoad, RawStore, Constant, Binary, Cast, Alloc, Dealloc, Start, Wait, Return}
+use Rattle.affine_ast.specs.Nest.{Plain, Nest, Nothing, Loop, Branch, Does, Start}
 use Rattle.direct_meaning.specs.Turns.{gap, turns, turns_within}
 use Rattle.direct_meaning.specs.Action.{Action}
 use Rattle.direct_meaning.specs.Static.{Env, knows, lower_of, upper_of, holds_at}
@@ -46,19 +46,8 @@ either true xs ys a b p q = omega arith
 either false xs ys a b p q = omega arith
 
 one : (p : Plain) (rho : Ranges) → 1 ≤ plain_work p rho
-one (Value r pick at) rho = omega arith
-one (Load r m at ty) rho = omega arith
-one (Store x m at ty) rho = omega arith
-one (RawLoad r m at ty) rho = omega arith
-one (RawStore x m at ty) rho = omega arith
-one (Constant r z ty) rho = omega arith
-one (Binary r op a b ty) rho = omega arith
-one (Cast r kind x from to) rho = omega arith
-one (Alloc r ty) rho = omega arith
-one (Dealloc m ty) rho = omega arith
 one (Start a a_at b b_at t t_at n stride types) rho = omega arith
-one (Wait t at n ty) rho = omega arith
-one Return rho = omega arith
+one p rho = omega arith
 
 pub work_bounds : (n : Nest) (e : Env) (rho : Ranges) → TurnsBounded n e rho → length (actions n e) ≤ full_work n rho
 unfolding actions full_work

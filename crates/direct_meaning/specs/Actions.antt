@@ -7,6 +7,7 @@ use Rattle.affine_ast.specs.declared.types.Scalar.{Scalar}
 use Rattle.affine_ast.specs.declared.types.Scalar.TheVariants.{Int, Index}
 use Rattle.affine_ast.specs.Names.{put}
 use Rattle.affine_ast.specs.Nest.{Plain, Nest, Nothing, Loop, Branch, Does, Value, Load, Store, RawLoad, RawStore, Constant, Binary, Cast, Alloc, Dealloc, Start, Wait, Return}
+use Rattle.affine_ast.specs.Parts.{Effect, NewIndex, NewConstant, NewData, NewMemref, Released, Unchanged, effect_of}
 use Rattle.bus_model.specs.declared.step.FaultKind.TheVariants.{Bounds, Shape}
 use Rattle.bus_model.specs.declared.transfer.Transfer.{Transfer}
 use Rattle.direct_meaning.specs.Turns.{turns, gap}
@@ -105,29 +106,32 @@ after_alloc r ty e =
     then record e { home = put e.home r (Some (FastMemref e.fasts)); fasts = suc e.fasts }
     else record e { home = put e.home r (Some (TagMemref e.tags)); tags = e.tags + product ty.sizes }
 
+-- what is known after what a statement does to the names round it
+abbrev pub after_effect : Effect → Env → Env
+after_effect (NewIndex r pick at) e = knows e r (picked pick (results_of e at))
+after_effect (NewConstant r z ty) e = after_constant r z ty e
+after_effect (NewData r ty) e = forgets e r
+after_effect (NewMemref r ty) e = after_alloc r ty e
+after_effect (Released m) e = e
+after_effect Unchanged e = e
+
 -- what is known after a statement
 unfoldable pub after_plain : Plain → Env → Env
-after_plain (Value r pick at) e = knows e r (picked pick (results_of e at))
-after_plain (Load r m at ty) e = forgets e r
-after_plain (Store x m at ty) e = e
-after_plain (RawLoad r m at ty) e = forgets e r
-after_plain (RawStore x m at ty) e = e
-after_plain (Constant r z ty) e = after_constant r z ty e
-after_plain (Binary r op a b ty) e = forgets e r
-after_plain (Cast r kind x from to) e = forgets e r
-after_plain (Alloc r ty) e = after_alloc r ty e
-after_plain (Dealloc m ty) e = e
-after_plain (Start a a_at b b_at t t_at n stride types) e = e
-after_plain (Wait t at n ty) e = e
-after_plain Return e = e
+after_plain p e = after_effect (effect_of p) e
+
+abbrev pub fasts_of_effect : Effect → ℕ
+fasts_of_effect (NewMemref r ty) = if is_fast ty then 1 else 0
+fasts_of_effect x = 0
 
 abbrev pub fasts_of_plain : Plain → ℕ
-fasts_of_plain (Alloc r ty) = if is_fast ty then 1 else 0
-fasts_of_plain p = 0
+fasts_of_plain p = fasts_of_effect (effect_of p)
+
+abbrev pub tags_of_effect : Effect → ℕ
+tags_of_effect (NewMemref r ty) = if is_fast ty then 0 else product ty.sizes
+tags_of_effect x = 0
 
 abbrev pub tags_of_plain : Plain → ℕ
-tags_of_plain (Alloc r ty) = if is_fast ty then 0 else product ty.sizes
-tags_of_plain p = 0
+tags_of_plain p = tags_of_effect (effect_of p)
 
 -- how many allocations in space 1 stand in a text
 abbrev pub fasts_in : Nest → ℕ

@@ -12,7 +12,8 @@ use Rattle.affine_ast.specs.declared.module.Module.{Module}
 use Rattle.affine_ast.specs.declared.types.Scalar.{Scalar}
 use Rattle.affine_ast.specs.declared.types.Scalar.TheVariants as scalar
 use Rattle.affine_ast.specs.Names.{put}
-use Rattle.affine_ast.specs.Nest.{Plain, Nest, Nothing, Loop, Branch, Does, Value, Load, RawLoad, Constant, Binary, Cast, Start, nest}
+use Rattle.affine_ast.specs.Nest.{Plain, Nest, Nothing, Loop, Branch, Does, Start, nest}
+use Rattle.affine_ast.specs.Parts.{Effect, NewIndex, NewConstant, NewData, effect_of}
 use Rattle.direct_meaning.specs.Turns.{gap}
 use Rattle.direct_meaning.specs.Memory.{range_or}
 
@@ -28,14 +29,15 @@ abbrev pub ranges_after_constant : Name → ℤ → Scalar → Ranges → Ranges
 ranges_after_constant r z (scalar.Int element) rho = no_range r rho
 ranges_after_constant r z scalar.Index rho = put rho r (only z)
 
+abbrev pub ranges_effect : Effect → Ranges → Ranges
+ranges_effect (NewIndex r pick at) rho = put rho r (picked_range pick (ranges_at rho at))
+ranges_effect (NewConstant r z ty) rho = ranges_after_constant r z ty rho
+ranges_effect (NewData r ty) rho = no_range r rho
+ranges_effect x rho = rho
+
+-- the ranges behind a plain statement
 abbrev pub ranges_after : Plain → Ranges → Ranges
-ranges_after (Value r pick at) rho = put rho r (picked_range pick (ranges_at rho at))
-ranges_after (Constant r z ty) rho = ranges_after_constant r z ty rho
-ranges_after (Load r m at ty) rho = no_range r rho
-ranges_after (RawLoad r m at ty) rho = no_range r rho
-ranges_after (Binary r op a b ty) rho = no_range r rho
-ranges_after (Cast r kind x from to) rho = no_range r rho
-ranges_after p rho = rho
+ranges_after p rho = ranges_effect (effect_of p) rho
 
 -- one for a plain statement, and the count and three for a start
 abbrev pub plain_work : Plain → Ranges → ℕ

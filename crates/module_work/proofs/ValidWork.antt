@@ -8,7 +8,7 @@ use Rattle.affine_ast.specs.declared.types.Bound.{Bound}
 use Rattle.affine_ast.specs.declared.types.Bound.TheVariants as bound
 use Rattle.affine_ast.specs.Intervals.{Ranges, first_turn, last_end, turn_range}
 use Rattle.affine_ast.specs.Names.{put}
-use Rattle.affine_ast.specs.Nest.{Plain, Nest, Nothing, Loop, Branch, Does, Value, Load, Store, RawLoad, RawStore, Constant, Binary, Cast, Alloc, Dealloc, Start, Wait, Return, nest}
+use Rattle.affine_ast.specs.Nest.{Plain, Nest, Nothing, Loop, Branch, Does, Value, nest}
 use Rattle.affine_ast.specs.Rules.{map_fits, bound_fits, bound_pure, step_positive, counts_fit, maps_pure, results_fit}
 use Rattle.affine_ast.specs.Scope.{Totals, Around, counted, in_loop, in_condition, with_totals, behind_plain}
 use Rattle.affine_ast.specs.Validity.{Passed, then_told, told, rule_of_plain, rule_of_loop, rule_of_condition, IsValid}
@@ -25,18 +25,7 @@ bound_workable rho (bound.Map at) f p b = record { fits = f; pure = p; bounded =
 
 plain_workable : (rho : Ranges) (p : Plain) → counts_fit p ≡ true → maps_pure p ≡ true → BoundedPlain rho p → WorkablePlain rho p
 plain_workable rho (Value r pick at) f p b = record { fits = (and_parts (map_fits at) (results_fit pick at) f).0; pure = p; bounded = b }
-plain_workable rho (Load r m at ty) f p b = tt
-plain_workable rho (Store x m at ty) f p b = tt
-plain_workable rho (RawLoad r m at ty) f p b = tt
-plain_workable rho (RawStore x m at ty) f p b = tt
-plain_workable rho (Constant r z ty) f p b = tt
-plain_workable rho (Binary r op x y ty) f p b = tt
-plain_workable rho (Cast r kind x from to) f p b = tt
-plain_workable rho (Alloc r ty) f p b = tt
-plain_workable rho (Dealloc m ty) f p b = tt
-plain_workable rho (Start x xa y ya t ta n stride types) f p b = tt
-plain_workable rho (Wait t at n ty) f p b = tt
-plain_workable rho Return f p b = tt
+plain_workable rho p f q b = tt
 
 positive : (s : ℤ) → step_positive s ≡ true → pos 0 <ℤ s
 positive s h = grind (arith, ints, h)

@@ -16,8 +16,8 @@ use Rattle.affine_ast.specs.Names.{put}
 use Rattle.affine_ast.specs.Nest.{Plain, Nest, Nothing, Loop, Branch, followed_by, nest, put_what}
 use Rattle.affine_ast.specs.Nest as tree
 use Rattle.affine_ast.proofs.Nests.{nest-nil, nest-cons, put-For, put-If, put-If-else, put-followed}
-use Rattle.affine_verify.specs.Plains.{plain_of, is_region}
-use Rattle.affine_verify.proofs.Plains.{put_plain}
+use Rattle.affine_ast.specs.Nest.{plain_of, is_region}
+use Rattle.affine_ast.proofs.Nests.{put_plain}
 use Rattle.direct_meaning.specs.Work.{turn_count, full_work, ranges_after_constant, start_ranges, work}
 use Rattle.module_work.specs.Saturated.{saturated}
 use Rattle.module_work.specs.Steps.{range_of_constant, Does, Steps}

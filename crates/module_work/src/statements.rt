@@ -3,8 +3,7 @@ ghost use Rattle.std.specs.Prelude.{◌≡◌, ℕ, ◌+◌, ◌^◌, ◌≤◌,
 ghost use Rattle.affine_expr.specs.Bounded.{range_at};
 ghost use Rattle.affine_ast.specs.Intervals.{first_turn, last_end, turn_range, ranges_at, picked_range};
 ghost use Rattle.affine_ast.specs.Names.{put};
-ghost use Rattle.affine_ast.specs.Nest.{nest, Nothing, put_what};
-ghost use Rattle.affine_verify.specs.Plains.{plain_of, is_region};
+ghost use Rattle.affine_ast.specs.Nest.{nest, Nothing, put_what, plain_of, is_region};
 ghost use Rattle.direct_meaning.specs.Work.{turn_count, full_work, no_range};
 ghost use Rattle.module_work.specs.Saturated.{saturated};
 ghost use Rattle.module_work.specs.Steps.{range_of_constant, Does, Steps};

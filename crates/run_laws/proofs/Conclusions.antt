@@ -7,7 +7,7 @@ use Rattle.affine_ast.specs.declared.module.ArgKind.{ArgKind}
 use Rattle.affine_ast.specs.declared.module.ArgKind.TheVariants.{Memref, Index}
 use Rattle.affine_ast.specs.declared.module.Module.{Module}
 use Rattle.affine_ast.specs.declared.name.Name.{Name}
-use Rattle.affine_ast.specs.Nest.{Plain, Nest, Nothing, Loop, Branch, Does, Value, Load, Store, RawLoad, RawStore, Constant, Binary, Cast, Alloc, Dealloc, Start, Wait, Return, nest}
+use Rattle.affine_ast.specs.Nest.{Plain, Nest, Nothing, Loop, Branch, Does, Constant, nest}
 use Rattle.affine_ast.specs.PlainLimits.{plain_fault}
 use Rattle.affine_ast.specs.Scope.{Totals, Around, counted, in_loop, in_condition, with_totals, behind_plain}
 use Rattle.affine_ast.specs.Validity.{Passed, then_told, told, rule_of_plain, rule_of_loop, rule_of_condition, behind_argument, outside, IsValid}
@@ -68,19 +68,8 @@ can_run m valid plain memory fits =
 -- ---- types
 
 constant_fits : (a : Around) (p : Plain) (rest : Nest) → Holds a p rest → ConstantFits p
-constant_fits a (Value r pick at) rest k = tt
-constant_fits a (Load r m at ty) rest k = tt
-constant_fits a (Store x m at ty) rest k = tt
-constant_fits a (RawLoad r m at ty) rest k = tt
-constant_fits a (RawStore x m at ty) rest k = tt
 constant_fits a (Constant r z ty) rest k = range_of_test _ z k.constants
-constant_fits a (Binary r op x y ty) rest k = tt
-constant_fits a (Cast r kind x from to) rest k = tt
-constant_fits a (Alloc r ty) rest k = tt
-constant_fits a (Dealloc m ty) rest k = tt
-constant_fits a (Start x xa y ya u ta n stride types) rest k = tt
-constant_fits a (Wait u at n ty) rest k = tt
-constant_fits a Return rest k = tt
+constant_fits a p rest k = tt
 
 constants_of_told : (n : Nest) (a : Around) (t : Totals) → told n a ≡ Passed t → ConstantsFit n
 unfolding told

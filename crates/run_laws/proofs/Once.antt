@@ -1,13 +1,14 @@
 -- The names of a valid module are bound once.
 use Rattle.std.proofs.Common.{◌≡◌, Bool, true, false, List, [], ◌∷◌, refl, sym, ap, ◌∙◌}
-use Rattle.std.specs.Prelude.{not, Some, is_some}
+use Rattle.std.specs.Prelude.{not, Option, Some, None, is_some}
 use Rattle.affine_ast.specs.declared.module.Arg.{Arg}
 use Rattle.affine_ast.specs.declared.name.Name.{Name}
 use Rattle.affine_ast.specs.Names.{same_name, put}
 use Rattle.affine_ast.proofs.Names.{put-same, put-other}
-use Rattle.affine_ast.specs.Nest.{Plain, Nest, Nothing, Loop, Branch, Does, Value, Load, Store, RawLoad, RawStore, Constant, Binary, Cast, Alloc, Dealloc, Start, Wait, Return, nest}
-use Rattle.affine_ast.specs.Rules.{is_in}
-use Rattle.affine_ast.specs.Scope.{Binding, Scope, Totals, Around, counted, in_loop, in_condition, with_totals, behind_plain}
+use Rattle.affine_ast.specs.Nest.{Plain, Nest, Nothing, Loop, Branch, Does, nest}
+use Rattle.affine_ast.specs.Parts.{Effect, NewIndex, NewConstant, NewData, NewMemref, effect_of, result_of_effect, result_of}
+use Rattle.affine_ast.specs.Rules.{is_in, is_new_result}
+use Rattle.affine_ast.specs.Scope.{Binding, Scope, Totals, Around, counted, in_loop, in_condition, with_totals, behind_effect, behind_plain}
 use Rattle.affine_ast.specs.Validity.{Passed, then_told, told, rule_of_plain, rule_of_loop, rule_of_condition, behind_argument, outside}
 use Rattle.direct_meaning.specs.Actions.{after_plain, behind}
 use Rattle.direct_meaning.specs.Memory.{start_env}
@@ -18,7 +19,7 @@ use Rattle.valid_laws.proofs.SafeHolds.{plain_stands, turn_stands}
 use Rattle.valid_laws.proofs.SafeStart.{ArgumentsHold, behind_arguments, start_around, start_stands, valid_safe}
 use Rattle.valid_laws.proofs.Scoped.{ScopeStands, new_name}
 use Rattle.valid_laws.proofs.Small.{not_false, small_between}
-use Rattle.run_laws.specs.BindsOnce.{IsFree, binds, bound_after, PlainBindsOnce, BindsOnce, ArgumentsBindOnce, bound_by, ValidBindsOnce}
+use Rattle.run_laws.specs.BindsOnce.{IsFree, BindsFree, binds, bound_with, bound_after, PlainBindsOnce, BindsOnce, ArgumentsBindOnce, bound_by, ValidBindsOnce}
 
 -- the bound names are those in scope
 abbrev BoundIs : Scope → (Name → Bool) → Type 0
@@ -38,35 +39,19 @@ new_bound s bound n h new = h n ∙ not_false (is_some (s n)) new
 free : (s : Scope) (e : Env) (bound : Name → Bool) (n : Name) → ScopeStands s e → BoundIs s bound → not (is_in s n) ≡ true → IsFree bound e n
 free s e bound n h k new = let two = new_name s e n h new in record { not_bound = new_bound s bound n k new; no_number = two.0; no_memref = two.1 }
 
-plain_once : (a : Around) (p : Plain) (rest : Nest) (e : Env) (bound : Name → Bool) → ScopeStands a.scope e → BoundIs a.scope bound → Holds (counted a) p rest → PlainBindsOnce bound e p
-plain_once a (Value r pick at) rest e bound h k v = free a.scope e bound r h k v.new_name
-plain_once a (Load r m at ty) rest e bound h k v = free a.scope e bound r h k v.new_name
-plain_once a (Store x m at ty) rest e bound h k v = tt
-plain_once a (RawLoad r m at ty) rest e bound h k v = free a.scope e bound r h k v.new_name
-plain_once a (RawStore x m at ty) rest e bound h k v = tt
-plain_once a (Constant r z ty) rest e bound h k v = free a.scope e bound r h k v.new_name
-plain_once a (Binary r op x y ty) rest e bound h k v = free a.scope e bound r h k v.new_name
-plain_once a (Cast r kind x from to) rest e bound h k v = free a.scope e bound r h k v.new_name
-plain_once a (Alloc r ty) rest e bound h k v = free a.scope e bound r h k v.new_name
-plain_once a (Dealloc m ty) rest e bound h k v = tt
-plain_once a (Start x xa y ya t ta n stride types) rest e bound h k v = tt
-plain_once a (Wait t at n ty) rest e bound h k v = tt
-plain_once a Return rest e bound h k v = tt
+result_once : (s : Scope) (e : Env) (bound : Name → Bool) (r : Option Name) → ScopeStands s e → BoundIs s bound → is_new_result s r ≡ true → BindsFree bound e r
+result_once s e bound (Some r) h k new = free s e bound r h k new
+result_once s e bound None h k new = tt
 
-bound_behind : (a : Around) (p : Plain) (bound : Name → Bool) → BoundIs a.scope bound → BoundIs (behind_plain p (counted a)).scope (bound_after p bound)
-bound_behind a (Value r pick at) bound k = bound_put a.scope bound r _ k
-bound_behind a (Load r m at ty) bound k = bound_put a.scope bound r _ k
-bound_behind a (Store x m at ty) bound k = k
-bound_behind a (RawLoad r m at ty) bound k = bound_put a.scope bound r _ k
-bound_behind a (RawStore x m at ty) bound k = k
-bound_behind a (Constant r z ty) bound k = bound_put a.scope bound r _ k
-bound_behind a (Binary r op x y ty) bound k = bound_put a.scope bound r _ k
-bound_behind a (Cast r kind x from to) bound k = bound_put a.scope bound r _ k
-bound_behind a (Alloc r ty) bound k = bound_put a.scope bound r _ k
-bound_behind a (Dealloc m ty) bound k = k
-bound_behind a (Start x xa y ya t ta n stride types) bound k = k
-bound_behind a (Wait t at n ty) bound k = k
-bound_behind a Return bound k = k
+plain_once : (a : Around) (p : Plain) (rest : Nest) (e : Env) (bound : Name → Bool) → ScopeStands a.scope e → BoundIs a.scope bound → Holds (counted a) p rest → PlainBindsOnce bound e p
+plain_once a p rest e bound h k v = result_once a.scope e bound (result_of p) h k v.new_name
+
+bound_behind : (a : Around) (x : Effect) (bound : Name → Bool) → BoundIs a.scope bound → BoundIs (behind_effect x a).scope (bound_with (result_of_effect x) bound)
+bound_behind a (NewIndex r pick at) bound k = bound_put a.scope bound r _ k
+bound_behind a (NewConstant r z ty) bound k = bound_put a.scope bound r _ k
+bound_behind a (NewData r ty) bound k = bound_put a.scope bound r _ k
+bound_behind a (NewMemref r ty) bound k = bound_put a.scope bound r _ k
+bound_behind a x bound k = k
 
 once : (n : Nest) (a : Around) (t : Totals) (e : Env) (bound : Name → Bool) → ScopeStands a.scope e → BoundIs a.scope bound → SafeNest n e → told n a ≡ Passed t → BindsOnce n bound e
 unfolding told
@@ -90,7 +75,7 @@ once (Branch line set names first has other rest) a t e bound h b v k =
 once (Does line p rest) a t e bound h b v k =
     let j = judged_passed line (rule_of_plain (counted a) p rest) _ t k in
     let holds = plain_holds (counted a) p rest j.0 in
-    (plain_once a p rest e bound h b holds, once rest (behind_plain p (counted a)) t (after_plain p e) (bound_after p bound) (plain_stands a p rest e h holds v.1) (bound_behind a p bound b) v.2 j.1)
+    (plain_once a p rest e bound h b holds, once rest (behind_plain p (counted a)) t (after_plain p e) (bound_after p bound) (plain_stands a p rest e h holds v.1) (bound_behind (counted a) (effect_of p) bound b) v.2 j.1)
 
 -- ---- the arguments
 

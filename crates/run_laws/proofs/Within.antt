@@ -7,7 +7,9 @@ use Rattle.affine_ast.specs.declared.types.Bound.{Bound}
 use Rattle.affine_ast.specs.declared.types.Bound.TheVariants as bound
 use Rattle.affine_ast.specs.Intervals.{Ranges, first_turn, last_end, turn_range}
 use Rattle.affine_ast.specs.Names.{put}
-use Rattle.affine_ast.specs.Nest.{Plain, Nest, Nothing, Loop, Branch, Does, Value, Load, Store, RawLoad, RawStore, Constant, Binary, Cast, Alloc, Dealloc, Start, Wait, Return, nest}
+use Rattle.affine_ast.specs.Nest.{Plain, Nest, Nothing, Loop, Branch, Does, nest}
+use Rattle.affine_ast.specs.Parts.{maps_of}
+use Rattle.affine_ast.proofs.Parts.{Every-weaker}
 use Rattle.direct_meaning.specs.Actions.{after_plain, behind}
 use Rattle.direct_meaning.specs.Memory.{start_env}
 use Rattle.direct_meaning.specs.Pure.{AffineNest}
@@ -15,12 +17,12 @@ use Rattle.direct_meaning.specs.Static.{Env, knows, number, lower_of, upper_of}
 use Rattle.direct_meaning.specs.Work.{ranges_after, start_ranges}
 use Rattle.direct_meaning.proofs.RangesHold.{RangesHold, put_in, lower_in, upper_in, plain_in, start_in}
 use Rattle.valid_laws.specs.Bounded.{BoundedBound, BoundedNest}
-use Rattle.valid_laws.specs.Evaluable.{EvaluableBound, EvaluablePlain, EvaluableNest}
+use Rattle.valid_laws.specs.Evaluable.{EvaluableAccess, EvaluableBound, EvaluablePlain, EvaluableNest}
 use Rattle.valid_laws.proofs.Evaluated.{turn_in, valid_evaluable}
 use Rattle.valid_laws.proofs.Passing.{valid_affine}
 use Rattle.valid_laws.proofs.Reach.{valid_bounded}
 use Rattle.valid_laws.proofs.Small.{not_false}
-use Rattle.run_laws.specs.StaysWithin.{BoundStays, PlainStays, InIntervals, StaysWithin, ValidStaysWithin}
+use Rattle.run_laws.specs.StaysWithin.{AccessStays, BoundStays, PlainStays, InIntervals, StaysWithin, ValidStaysWithin}
 use Rattle.run_laws.proofs.MetValues.{each_meets, rows_meet}
 
 in_intervals : (e : Env) (rho : Ranges) → RangesHold e rho → InIntervals e rho
@@ -32,19 +34,7 @@ bound_stays e rho (bound.Value n) k v = tt
 bound_stays e rho (bound.Map at) k v = each_meets _ _ at.map.results v
 
 plain_stays : (e : Env) (p : Plain) → EvaluablePlain e p → PlainStays e p
-plain_stays e (Value r pick at) v = each_meets _ _ at.map.results v
-plain_stays e (Load r m at ty) v = each_meets _ _ at.map.results v
-plain_stays e (Store x m at ty) v = each_meets _ _ at.map.results v
-plain_stays e (RawLoad r m at ty) v = tt
-plain_stays e (RawStore x m at ty) v = tt
-plain_stays e (Constant r z ty) v = tt
-plain_stays e (Binary r op x y ty) v = tt
-plain_stays e (Cast r kind x from to) v = tt
-plain_stays e (Alloc r ty) v = tt
-plain_stays e (Dealloc m ty) v = tt
-plain_stays e (Start x xa y ya t ta n stride types) v = (each_meets _ _ xa.map.results v.0, each_meets _ _ ya.map.results v.1, each_meets _ _ ta.map.results v.2)
-plain_stays e (Wait t at n ty) v = each_meets _ _ at.map.results v
-plain_stays e Return v = tt
+plain_stays e p v = Every-weaker (EvaluableAccess e) (AccessStays e) (λ at v. each_meets _ _ at.map.results v) (maps_of p) v
 
 stays : (n : Nest) (e : Env) (rho : Ranges) → AffineNest n → BoundedNest n rho → EvaluableNest n e → RangesHold e rho → StaysWithin n e rho
 stays Nothing e rho af bd v h = in_intervals e rho h

@@ -1,11 +1,12 @@
 -- Texts whose names are bound once wherever they are in scope.
-use Rattle.std.specs.Prelude.{◌≡◌, ℤ, ◌≤ℤ◌, ◌<ℤ◌, Bool, true, false, List, [], ◌∷◌, None}
+use Rattle.std.specs.Prelude.{◌≡◌, ℤ, ◌≤ℤ◌, ◌<ℤ◌, Bool, true, false, List, [], ◌∷◌, Option, Some, None}
 use Rattle.affine_ast.specs.declared.image.Image.{Image}
 use Rattle.affine_ast.specs.declared.module.Arg.{Arg}
 use Rattle.affine_ast.specs.declared.module.Module.{Module}
 use Rattle.affine_ast.specs.declared.name.Name.{Name}
 use Rattle.affine_ast.specs.Names.{put}
-use Rattle.affine_ast.specs.Nest.{Plain, Nest, Nothing, Loop, Branch, Does, Value, Load, RawLoad, Constant, Binary, Cast, Alloc, nest}
+use Rattle.affine_ast.specs.Nest.{Plain, Nest, Nothing, Loop, Branch, Does, nest}
+use Rattle.affine_ast.specs.Parts.{result_of}
 use Rattle.affine_ast.specs.Validity.{IsValid}
 use Rattle.direct_meaning.specs.Actions.{after_plain, behind}
 use Rattle.direct_meaning.specs.Memory.{Fits, start_env}
@@ -21,26 +22,20 @@ abbrev pub binds : Name → (Name → Bool) → Name → Bool
 binds n bound = put bound n true
 
 -- the names in scope behind a plain statement
+abbrev pub bound_with : Option Name → (Name → Bool) → Name → Bool
+bound_with (Some r) bound = binds r bound
+bound_with None bound = bound
+
 abbrev pub bound_after : Plain → (Name → Bool) → Name → Bool
-bound_after (Value r pick at) bound = binds r bound
-bound_after (Load r m at ty) bound = binds r bound
-bound_after (RawLoad r m at ty) bound = binds r bound
-bound_after (Constant r z ty) bound = binds r bound
-bound_after (Binary r op x y ty) bound = binds r bound
-bound_after (Cast r kind x from to) bound = binds r bound
-bound_after (Alloc r ty) bound = binds r bound
-bound_after p bound = bound
+bound_after p bound = bound_with (result_of p) bound
 
 -- what a plain statement binds
+abbrev pub BindsFree : (Name → Bool) → Env → Option Name → Type 0
+BindsFree bound e (Some r) = IsFree bound e r
+BindsFree bound e None = Unit {0}
+
 abbrev pub PlainBindsOnce : (Name → Bool) → Env → Plain → Type 0
-PlainBindsOnce bound e (Value r pick at) = IsFree bound e r
-PlainBindsOnce bound e (Load r m at ty) = IsFree bound e r
-PlainBindsOnce bound e (RawLoad r m at ty) = IsFree bound e r
-PlainBindsOnce bound e (Constant r z ty) = IsFree bound e r
-PlainBindsOnce bound e (Binary r op x y ty) = IsFree bound e r
-PlainBindsOnce bound e (Cast r kind x from to) = IsFree bound e r
-PlainBindsOnce bound e (Alloc r ty) = IsFree bound e r
-PlainBindsOnce bound e p = Unit {0}
+PlainBindsOnce bound e p = BindsFree bound e (result_of p)
 
 -- wherever the list of actions is made, a statement binds a name that isn't bound yet; what a region binds isn't bound behind it
 abbrev pub BindsOnce : Nest → (Name → Bool) → Env → Type 0

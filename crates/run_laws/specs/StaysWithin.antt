@@ -16,7 +16,8 @@ use Rattle.affine_ast.specs.declared.types.Bound.{Bound}
 use Rattle.affine_ast.specs.declared.types.Bound.TheVariants as bound
 use Rattle.affine_ast.specs.Intervals.{Ranges, first_turn, last_end, turn_range}
 use Rattle.affine_ast.specs.Names.{put}
-use Rattle.affine_ast.specs.Nest.{Plain, Nest, Nothing, Loop, Branch, Does, Value, Load, Store, Start, Wait, nest}
+use Rattle.affine_ast.specs.Nest.{Plain, Nest, Nothing, Loop, Branch, Does, nest}
+use Rattle.affine_ast.specs.Parts.{Every, maps_of}
 use Rattle.affine_ast.specs.Validity.{IsValid}
 use Rattle.direct_meaning.specs.Actions.{after_plain, behind}
 use Rattle.direct_meaning.specs.Memory.{Fits, start_env}
@@ -70,12 +71,7 @@ BoundStays e (bound.Value n) = Unit {0}
 BoundStays e (bound.Map at) = AccessStays e at
 
 abbrev pub PlainStays : Env → Plain → Type 0
-PlainStays e (Value r pick at) = AccessStays e at
-PlainStays e (Load r m at ty) = AccessStays e at
-PlainStays e (Store x m at ty) = AccessStays e at
-PlainStays e (Start a a_at b b_at t t_at n stride types) = AccessStays e a_at × AccessStays e b_at × AccessStays e t_at
-PlainStays e (Wait t at n ty) = AccessStays e at
-PlainStays e p = Unit {0}
+PlainStays e p = Every (AccessStays e) (maps_of p)
 
 -- ---- the intervals of names
 

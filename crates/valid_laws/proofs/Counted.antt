@@ -5,7 +5,7 @@ use Rattle.std.proofs.lemmas.Bool.{and_parts}
 use Rattle.affine_ast.specs.declared.name.Name.{Name}
 use Rattle.affine_ast.specs.declared.types.Element.TheVariants.{I32}
 use Rattle.affine_ast.specs.declared.types.MemrefType.{MemrefType}
-use Rattle.affine_ast.specs.Nest.{Plain, Nest, Nothing, Loop, Branch, Does, Value, Load, Store, RawLoad, RawStore, Constant, Binary, Cast, Alloc, Dealloc, Start, Wait, Return}
+use Rattle.affine_ast.specs.Nest.{Plain, Nest, Nothing, Loop, Branch, Does, Alloc}
 use Rattle.affine_ast.specs.Rules.{same_element, allocates_well, is_released_once, allocations_within, shape_within, text_within}
 use Rattle.affine_ast.specs.Scope.{Totals, Around, counted, in_loop, in_condition, with_totals, totals_with, tags_of, behind_plain}
 use Rattle.affine_ast.specs.Sizes.{product}
@@ -70,21 +70,10 @@ kept : (t : Totals) (f g : ℕ) → IsCounted t f g → IsCounted t (f + 0) (g +
 kept t f g h = record { statements_fit = h.statements_fit; tags_fit = h.tags_fit; fasts = omega (arith, h.fasts); tags = omega (arith, h.tags) }
 
 pub plain_counted : (a : Around) (p : Plain) (rest : Nest) (f g : ℕ) → IsCounted a.totals f g → Holds (counted a) p rest → IsCounted (behind_plain p (counted a)).totals (f + fasts_of_plain p) (g + tags_of_plain p)
-plain_counted a (Value r pick at) rest f g h k = kept _ f g (counted_one a f g h k.text)
-plain_counted a (Load r m at ty) rest f g h k = kept _ f g (counted_one a f g h k.text)
-plain_counted a (Store x m at ty) rest f g h k = kept _ f g (counted_one a f g h k.text)
-plain_counted a (RawLoad r m at ty) rest f g h k = kept _ f g (counted_one a f g h k.text)
-plain_counted a (RawStore x m at ty) rest f g h k = kept _ f g (counted_one a f g h k.text)
-plain_counted a (Constant r z ty) rest f g h k = kept _ f g (counted_one a f g h k.text)
-plain_counted a (Binary r op x y ty) rest f g h k = kept _ f g (counted_one a f g h k.text)
-plain_counted a (Cast r kind x from to) rest f g h k = kept _ f g (counted_one a f g h k.text)
 plain_counted a (Alloc r ty) rest f g h k =
     let one = counted_one a f g h k.text in
     alloc_counted ty (counted a).totals (is_fast ty) f g refl (alloc_holds (counted a) r ty rest k) one.statements_fit (omega (arith, h.fasts)) h.tags
-plain_counted a (Dealloc m ty) rest f g h k = kept _ f g (counted_one a f g h k.text)
-plain_counted a (Start x xa y ya t ta n stride types) rest f g h k = kept _ f g (counted_one a f g h k.text)
-plain_counted a (Wait t at n ty) rest f g h k = kept _ f g (counted_one a f g h k.text)
-plain_counted a Return rest f g h k = kept _ f g (counted_one a f g h k.text)
+plain_counted a p rest f g h k = kept _ f g (counted_one a f g h k.text)
 
 -- ---- behind statements
 

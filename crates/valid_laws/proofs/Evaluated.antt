@@ -23,7 +23,9 @@ use Rattle.affine_ast.specs.Intervals.{first_turn, last_end, turn_range}
 use Rattle.affine_ast.specs.Names.{put}
 use Rattle.affine_ast.specs.Scope.{Totals, Around, counted, in_loop, in_condition, with_totals, behind_plain}
 use Rattle.affine_ast.specs.Validity.{Passed, then_told, told, rule_of_plain, rule_of_loop, rule_of_condition, IsValid}
-use Rattle.affine_ast.specs.Nest.{Plain, Nest, Nothing, Loop, Branch, Does, nest, Value, Load, Store, RawLoad, RawStore, Constant, Binary, Cast, Alloc, Dealloc, Start, Wait, Return}
+use Rattle.affine_ast.specs.Nest.{Plain, Nest, Nothing, Loop, Branch, Does, nest, Value, Load, Store, Start, Wait}
+use Rattle.affine_ast.specs.Parts.{Every, maps_of}
+use Rattle.affine_ast.proofs.Parts.{Every-passed, Every-both}
 use Rattle.direct_meaning.specs.Actions.{after_plain, behind}
 use Rattle.direct_meaning.specs.Memory.{Fits, start_env}
 use Rattle.direct_meaning.specs.Pure.{AffineNest}
@@ -135,33 +137,27 @@ module _ (e : Env) (rho : Ranges) (holds : RangesHold e rho) where
   unfolding subscripts_fit
   subscripts_map at ty h = (and_parts (map_fits at) (nat_eq (length at.map.results) (length ty.sizes)) h).0
 
-  ends_evaluable : (x y t : Access) (types : List MemrefType) → ends_fit x y t types ≡ true → (access_pure x && (access_pure y && access_pure t)) ≡ true → BoundedAccess rho x → BoundedAccess rho y → BoundedAccess rho t
-      → EvaluableAccess e x × EvaluableAccess e y × EvaluableAccess e t
-  ends_evaluable x y t (x_ty ∷ y_ty ∷ t_ty ∷ []) f p bx by bt =
+  ends_map : (x y t : Access) (types : List MemrefType) → ends_fit x y t types ≡ true → Every (λ at. map_fits at ≡ true) (x ∷ y ∷ t ∷ [])
+  ends_map x y t (x_ty ∷ y_ty ∷ t_ty ∷ []) f =
       let f1 = and_parts (subscripts_fit x x_ty) (subscripts_fit y y_ty && subscripts_fit t t_ty) f in
       let f2 = and_parts (subscripts_fit y y_ty) (subscripts_fit t t_ty) f1.1 in
-      let p1 = and_parts (access_pure x) (access_pure y && access_pure t) p in
-      let p2 = and_parts (access_pure y) (access_pure t) p1.1 in
-      (access_evaluable x (subscripts_map x x_ty f1.0) p1.0 bx, access_evaluable y (subscripts_map y y_ty f2.0) p2.0 by, access_evaluable t (subscripts_map t t_ty f2.1) p2.1 bt)
-  ends_evaluable x y t [] f p bx by bt = absurd (let z : ⊥ = cc in z)
-  ends_evaluable x y t (a ∷ []) f p bx by bt = absurd (let z : ⊥ = cc in z)
-  ends_evaluable x y t (a ∷ b ∷ []) f p bx by bt = absurd (let z : ⊥ = cc in z)
-  ends_evaluable x y t (a ∷ b ∷ c ∷ d ∷ more) f p bx by bt = absurd (let z : ⊥ = cc in z)
+      (subscripts_map x x_ty f1.0, (subscripts_map y y_ty f2.0, subscripts_map t t_ty f2.1))
+  ends_map x y t types f = absurd (let z : ⊥ = cc in z)
+
+  -- the rule on counts says it of every map
+  maps_fit : (p : Plain) → counts_fit p ≡ true → Every (λ at. map_fits at ≡ true) (maps_of p)
+  maps_fit (Value r pick at) f = (and_parts (map_fits at) (results_fit pick at) f).0
+  maps_fit (Load r m at ty) f = subscripts_map at ty f
+  maps_fit (Store x m at ty) f = subscripts_map at ty f
+  maps_fit (Start x xa y ya t ta n stride types) f = ends_map xa ya ta types f
+  maps_fit (Wait t at n ty) f = subscripts_map at ty f
+  maps_fit p f = tt
 
   plain_evaluable : (p : Plain) → counts_fit p ≡ true → maps_pure p ≡ true → BoundedPlain rho p → EvaluablePlain e p
-  plain_evaluable (Value r pick at) f p b = access_evaluable at (and_parts (map_fits at) (results_fit pick at) f).0 p b
-  plain_evaluable (Load r m at ty) f p b = access_evaluable at (subscripts_map at ty f) p b
-  plain_evaluable (Store x m at ty) f p b = access_evaluable at (subscripts_map at ty f) p b
-  plain_evaluable (RawLoad r m at ty) f p b = tt
-  plain_evaluable (RawStore x m at ty) f p b = tt
-  plain_evaluable (Constant r z ty) f p b = tt
-  plain_evaluable (Binary r op x y ty) f p b = tt
-  plain_evaluable (Cast r kind x from to) f p b = tt
-  plain_evaluable (Alloc r ty) f p b = tt
-  plain_evaluable (Dealloc m ty) f p b = tt
-  plain_evaluable (Start x xa y ya t ta n stride types) f p b = ends_evaluable xa ya ta types f p b.0 b.1 b.2
-  plain_evaluable (Wait t at n ty) f p b = access_evaluable at (subscripts_map at ty f) p b
-  plain_evaluable Return f p b = tt
+  plain_evaluable p f p' b =
+      Every-both (λ at. (map_fits at ≡ true) × (access_pure at ≡ true)) (BoundedAccess rho) (EvaluableAccess e) (λ at h b. access_evaluable at h.0 h.1 b) (maps_of p)
+      (Every-both (λ at. map_fits at ≡ true) (λ at. access_pure at ≡ true) _ (λ at x y. (x, y)) (maps_of p) (maps_fit p f) (Every-passed access_pure _ (λ at h. h) (maps_of p) p'))
+      b
 
 pub turn_in : (a b low high t : ℤ) → a ≤ℤ low → high ≤ℤ b → low ≤ℤ t → t <ℤ high → Within t (turn_range a b)
 turn_in a b low high t p q from to = record { low = omega (arith, ints, p, from); high = grind (arith, ints, p, q, from, to) }

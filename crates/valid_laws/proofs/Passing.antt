@@ -8,7 +8,7 @@ use Rattle.affine_ast.specs.declared.module.Arg.{Arg}
 use Rattle.affine_ast.specs.declared.module.Module.{Module}
 use Rattle.affine_ast.specs.declared.name.Name.{Name}
 use Rattle.affine_ast.specs.declared.types.Bound.{Bound}
-use Rattle.affine_ast.specs.Nest.{Plain, Nest, Nothing, Loop, Branch, Does, Value, Load, Store, RawLoad, RawStore, Constant, Binary, Cast, Alloc, Dealloc, Start, Wait, Return, nest}
+use Rattle.affine_ast.specs.Nest.{Plain, Nest, Nothing, Loop, Branch, Does, Value, nest}
 use Rattle.affine_ast.specs.Rules.{bound_pure, step_positive, maps_pure, uses_in_scope, defines_new, uses_stand, types_agree, constant_in_range, counts_fit, maps_bounded, spaces_agree, text_within, bound_in, is_new, bound_stands, bound_fits, bound_bounded, are_in, operands_stand, set_fits, set_pure, set_bounded}
 use Rattle.affine_ast.specs.Scope.{Totals, Around, counted, in_loop, in_condition, with_totals, behind_plain}
 use Rattle.affine_ast.specs.Validity.{Told, Broken, Passed, judged, then_told, rule, elements_within, told, told_arguments, rule_of_plain, rule_of_loop, rule_of_condition, rule_of_argument, behind_argument, told_module, outside, broken_of, first_broken, IsValid}
@@ -38,18 +38,7 @@ then_passed (Passed s) more t h = (s, refl, h)
 
 plain_affine : (p : Plain) → maps_pure p ≡ true → AffinePlain p
 plain_affine (Value r pick at) h = h
-plain_affine (Load r m at ty) h = tt
-plain_affine (Store x m at ty) h = tt
-plain_affine (RawLoad r m at ty) h = tt
-plain_affine (RawStore x m at ty) h = tt
-plain_affine (Constant r z ty) h = tt
-plain_affine (Binary r op x y ty) h = tt
-plain_affine (Cast r kind x from to) h = tt
-plain_affine (Alloc r ty) h = tt
-plain_affine (Dealloc m ty) h = tt
-plain_affine (Start x xa y ya t ta n stride types) h = tt
-plain_affine (Wait t at n ty) h = tt
-plain_affine Return h = tt
+plain_affine p h = tt
 
 -- what holds of a plain statement that breaks no rule
 pub record Holds (a : Around) (p : Plain) (rest : Nest) : Type 0 where

@@ -19,11 +19,13 @@ use Rattle.affine_ast.specs.declared.types.Scalar.TheVariants as scalar
 use Rattle.affine_ast.specs.Intervals.{Ranges, ranges_at, picked_range, first_turn, last_end, turn_range}
 use Rattle.affine_ast.specs.Names.{same_name, put}
 use Rattle.affine_ast.proofs.Names.{put-same, put-other, same_name-eq}
-use Rattle.affine_ast.specs.Nest.{Plain, Nest, Nothing, Loop, Branch, Does, Value, Load, Store, RawLoad, RawStore, Constant, Binary, Cast, Alloc, Dealloc, Start, Wait, Return, nest}
-use Rattle.affine_ast.specs.Rules.{is_in, defines_new, has_interval, row_bounded, is_small_dimension, access_bounded, set_bounded, bound_bounded, maps_bounded}
-use Rattle.affine_ast.specs.Scope.{Binding, Variable, Scope, range_of_binding, ranges_in, binding_of_constant, Totals, Around, counted, in_loop, in_condition, with_totals, behind_plain}
+use Rattle.affine_ast.specs.Nest.{Plain, Nest, Nothing, Loop, Branch, Does, nest}
+use Rattle.affine_ast.specs.Parts.{maps_of, Effect, NewIndex, NewConstant, NewData, NewMemref, effect_of, result_of_effect}
+use Rattle.affine_ast.proofs.Parts.{Every-passed}
+use Rattle.affine_ast.specs.Rules.{is_in, is_new_result, has_interval, row_bounded, is_small_dimension, access_bounded, set_bounded, bound_bounded, maps_bounded}
+use Rattle.affine_ast.specs.Scope.{Binding, Variable, Scope, range_of_binding, ranges_in, binding_of_constant, Totals, Around, counted, in_loop, in_condition, with_totals, behind_effect, behind_plain}
 use Rattle.affine_ast.specs.Validity.{Passed, then_told, told, told_arguments, rule_of_plain, rule_of_loop, rule_of_condition, rule_of_argument, behind_argument, told_module, outside, first_broken, IsValid}
-use Rattle.direct_meaning.specs.Work.{ranges_after, ranges_after_constant, arg_ranges, start_ranges}
+use Rattle.direct_meaning.specs.Work.{ranges_effect, ranges_after, ranges_after_constant, arg_ranges, start_ranges}
 use Rattle.valid_laws.specs.Bounded.{BoundedAccess, BoundedSet, BoundedBound, BoundedPlain, BoundedNest}
 use Rattle.valid_laws.proofs.Passing.{rule_held, judged_passed, then_passed, plain_holds, loop_holds, condition_holds, passed_of}
 
@@ -82,39 +84,16 @@ module _ (s : Scope) (rho : Ranges) (e : ranges_in s ≡ rho) where
   bound_within (bound.Map at) h = access_within at h
 
   plain_within : (p : Plain) → maps_bounded s p ≡ true → BoundedPlain rho p
-  plain_within (Value r pick at) h = access_within at h
-  plain_within (Load r m at ty) h = access_within at h
-  plain_within (Store x m at ty) h = access_within at h
-  plain_within (RawLoad r m at ty) h = tt
-  plain_within (RawStore x m at ty) h = tt
-  plain_within (Constant r z ty) h = tt
-  plain_within (Binary r op x y ty) h = tt
-  plain_within (Cast r kind x from to) h = tt
-  plain_within (Alloc r ty) h = tt
-  plain_within (Dealloc m ty) h = tt
-  plain_within (Start x x_at y y_at t t_at n stride types) h =
-      let one = and_parts (access_bounded s x_at) (access_bounded s y_at && access_bounded s t_at) h in
-      let two = and_parts (access_bounded s y_at) (access_bounded s t_at) one.1 in
-      (access_within x_at one.0, access_within y_at two.0, access_within t_at two.1)
-  plain_within (Wait t at n ty) h = access_within at h
-  plain_within Return h = tt
+  plain_within p h = Every-passed (access_bounded s) (BoundedAccess rho) access_within (maps_of p) h
 
 -- ---- the ranges along the text
 
-plain_ranges : (p : Plain) (a : Around) (rho : Ranges) → ranges_in a.scope ≡ rho → defines_new a.scope p ≡ true → ranges_in (behind_plain p a).scope ≡ ranges_after p rho
-plain_ranges (Value r pick at) a rho e h = ranges_with a.scope rho e r (Variable (picked_range pick (ranges_at (ranges_in a.scope) at))) (picked_range pick (ranges_at rho at)) (ap (λ f. picked_range pick (ranges_at f at)) e)
-plain_ranges (Load r m at ty) a rho e h = ranges_with a.scope rho e r _ (only (pos 0)) refl
-plain_ranges (Store x m at ty) a rho e h = e
-plain_ranges (RawLoad r m at ty) a rho e h = ranges_with a.scope rho e r _ (only (pos 0)) refl
-plain_ranges (RawStore x m at ty) a rho e h = e
-plain_ranges (Constant r z ty) a rho e h = constant_with a.scope rho e r z ty
-plain_ranges (Binary r op x y ty) a rho e h = ranges_with a.scope rho e r _ (only (pos 0)) refl
-plain_ranges (Cast r kind x from to) a rho e h = ranges_with a.scope rho e r _ (only (pos 0)) refl
-plain_ranges (Alloc r ty) a rho e h = ranges_kept a.scope r _ refl h ∙ e
-plain_ranges (Dealloc m ty) a rho e h = e
-plain_ranges (Start x x_at y y_at t t_at n stride types) a rho e h = e
-plain_ranges (Wait t at n ty) a rho e h = e
-plain_ranges Return a rho e h = e
+effect_ranges : (x : Effect) (a : Around) (rho : Ranges) → ranges_in a.scope ≡ rho → is_new_result a.scope (result_of_effect x) ≡ true → ranges_in (behind_effect x a).scope ≡ ranges_effect x rho
+effect_ranges (NewIndex r pick at) a rho e h = ranges_with a.scope rho e r (Variable (picked_range pick (ranges_at (ranges_in a.scope) at))) (picked_range pick (ranges_at rho at)) (ap (λ f. picked_range pick (ranges_at f at)) e)
+effect_ranges (NewConstant r z ty) a rho e h = constant_with a.scope rho e r z ty
+effect_ranges (NewData r ty) a rho e h = ranges_with a.scope rho e r _ (only (pos 0)) refl
+effect_ranges (NewMemref r ty) a rho e h = ranges_kept a.scope r _ refl h ∙ e
+effect_ranges x a rho e h = e
 
 pub bounded_of_told : (n : Nest) (a : Around) (t : Totals) (rho : Ranges) → ranges_in a.scope ≡ rho → told n a ≡ Passed t → BoundedNest n rho
 unfolding told
@@ -133,7 +112,7 @@ bounded_of_told (Branch line set names first has other rest) a t rho e h =
 bounded_of_told (Does line p rest) a t rho e h =
     let j = judged_passed line (rule_of_plain (counted a) p rest) _ t h in
     let holds = plain_holds (counted a) p rest j.0 in
-    (plain_within a.scope rho e p holds.bounded, bounded_of_told rest (behind_plain p (counted a)) t (ranges_after p rho) (plain_ranges p (counted a) rho e holds.new_name) j.1)
+    (plain_within a.scope rho e p holds.bounded, bounded_of_told rest (behind_plain p (counted a)) t (ranges_after p rho) (effect_ranges (effect_of p) (counted a) rho e holds.new_name) j.1)
 
 -- ---- the arguments
 

@@ -15,11 +15,12 @@ use Rattle.affine_ast.specs.declared.types.Scalar.TheVariants as scalar
 use Rattle.affine_ast.specs.Names.{same_name, put}
 use Rattle.affine_ast.proofs.Names.{put-same, put-other, same_name-eq}
 use Rattle.affine_ast.specs.Nest.{Plain, Nest, Nothing, Loop, Branch, Does, Value, Load, Store, RawLoad, RawStore, Constant, Binary, Cast, Alloc, Dealloc, Start, Wait, Return}
-use Rattle.affine_ast.specs.Rules.{map_fits, results_fit, access_stands, bound_stands, bound_fits, bound_bounded, bound_pure, step_positive, is_value, are_values, is_of, is_memref_of, are_indexes, casts_between, is_loadable, is_live, is_allocated, ends_in_spaces, is_count, constant_of, stride_well, stride_names, is_in}
-use Rattle.affine_ast.specs.Scope.{Binding, Variable, IndexConstant, Data, Allocation, Scope, Totals, Around, counted, in_loop, in_condition, with_totals, behind_plain, binding_of_constant}
+use Rattle.affine_ast.specs.Rules.{map_fits, results_fit, access_stands, bound_stands, bound_fits, bound_bounded, bound_pure, step_positive, is_value, are_values, is_of, is_memref_of, are_indexes, casts_between, is_loadable, is_live, is_allocated, ends_in_spaces, is_count, constant_of, stride_well, is_in, is_new_result}
+use Rattle.affine_ast.specs.Parts.{stride_names, Effect, NewIndex, NewConstant, NewData, NewMemref, effect_of, result_of_effect}
+use Rattle.affine_ast.specs.Scope.{Binding, Variable, IndexConstant, Data, Allocation, Scope, Totals, Around, counted, in_loop, in_condition, with_totals, behind_effect, behind_plain, binding_of_constant}
 use Rattle.affine_ast.specs.Validity.{Passed, then_told, told, rule_of_plain, rule_of_loop, rule_of_condition}
 use Rattle.direct_meaning.specs.Action.{Home, FastMemref, TagMemref}
-use Rattle.direct_meaning.specs.Actions.{is_fast, fasts_of_plain, tags_of_plain, after_plain, after_constant, after_alloc, behind}
+use Rattle.direct_meaning.specs.Actions.{is_fast, fasts_of_effect, tags_of_effect, fasts_of_plain, tags_of_plain, after_effect, after_plain, after_constant, after_alloc, behind}
 use Rattle.direct_meaning.specs.Static.{Env, product, knows, results_of, picked}
 use Rattle.valid_laws.specs.Evaluable.{EvaluableBound, EvaluablePlain, EvaluableNest}
 use Rattle.valid_laws.specs.Safe.{IsSmall, CountsFit, SafeAccess, SafeLoop, IsMemref, new_home, SafePlain, SafeNest}
@@ -76,7 +77,7 @@ plain_safe a (Start x xa y ya t ta n stride types) rest e h c k v =
     let m1 = and_parts (ends_in_spaces types) (is_count (constant_of a.scope n) && (stride_well a.scope stride && (is_live a x && (is_live a y && is_live a t)))) k.spaces in
     let m2 = and_parts (is_count (constant_of a.scope n)) (stride_well a.scope stride && (is_live a x && (is_live a y && is_live a t))) m1.1 in
     let m3 = and_parts (stride_well a.scope stride) (is_live a x && (is_live a y && is_live a t)) m2.1 in
-    (ends_safe a.scope e h x y t xa ya ta types k.counts s1.0 s2.0 s3.0 k.types m1.0 v.0 v.1 v.2, count_of a.scope e h n m2.0, chunks_of a.scope e h stride m3.0)
+    (ends_safe a.scope e h x y t xa ya ta types k.counts s1.0 s2.0 s3.0 k.types m1.0 v.0 v.1.0 v.1.1, count_of a.scope e h n m2.0, chunks_of a.scope e h stride m3.0)
 plain_safe a (Wait t at n ty) rest e h c k v =
     let s1 = and_parts (access_stands a.scope at) (is_value a.scope n) k.stand in
     let m1 = and_parts (nat_eq ty.space 2) (is_count (constant_of a.scope n) && is_live a t) k.spaces in
@@ -116,47 +117,48 @@ module _ (s : Scope) (e : Env) (h : ScopeStands s e) where
       by true k = stands_memref r (Allocation ty) (FastMemref e.fasts) new (refl, k, omega (arith, k.stands.space))
       by false k = stands_memref r (Allocation ty) (TagMemref e.tags) new (refl, k, omega (arith, k.stands.space))
 
+-- what is safe of the name that a statement defines
+abbrev SafeEffect : Env → Effect → Type 0
+SafeEffect e (NewIndex r pick at) = IsSmall (picked pick (results_of e at))
+SafeEffect e (NewConstant r z ty) = SafePlain e (Constant r z ty)
+SafeEffect e (NewMemref r ty) = IsMemref (Some (new_home e ty)) ty
+SafeEffect e x = Unit {0}
+
+safe_effect : (e : Env) (p : Plain) → SafePlain e p → SafeEffect e (effect_of p)
+safe_effect e (Value r pick at) v = v.small
+safe_effect e (Constant r z ty) v = v
+safe_effect e (Alloc r ty) v = v
+safe_effect e p v = tt
+
+effect_stands : (a : Around) (x : Effect) (e : Env) → ScopeStands a.scope e → is_new_result a.scope (result_of_effect x) ≡ true → SafeEffect e x → ScopeStands (behind_effect x a).scope (after_effect x e)
+effect_stands a (NewIndex r pick at) e h k v = stands_number a.scope e h r _ (Some (picked pick (results_of e at))) k (record { value = picked pick (results_of e at); is = refl; small = v }, refl)
+effect_stands a (NewConstant r z ty) e h k v = stands_constant a.scope e h r z ty k v
+effect_stands a (NewData r ty) e h k v = stands_number a.scope e h r _ None k (refl, refl)
+effect_stands a (NewMemref r ty) e h k v = stands_alloc a.scope e h r ty k v
+effect_stands a x e h k v = h
+
 pub plain_stands : (a : Around) (p : Plain) (rest : Nest) (e : Env) → ScopeStands a.scope e → Holds (counted a) p rest → SafePlain e p → ScopeStands (behind_plain p (counted a)).scope (after_plain p e)
 unfolding after_plain
-plain_stands a (Value r pick at) rest e h k v = stands_number a.scope e h r _ (Some (picked pick (results_of e at))) k.new_name (record { value = picked pick (results_of e at); is = refl; small = v.small }, refl)
-plain_stands a (Load r m at ty) rest e h k v = stands_number a.scope e h r _ None k.new_name (refl, refl)
-plain_stands a (Store x m at ty) rest e h k v = h
-plain_stands a (RawLoad r m at ty) rest e h k v = stands_number a.scope e h r _ None k.new_name (refl, refl)
-plain_stands a (RawStore x m at ty) rest e h k v = h
-plain_stands a (Constant r z ty) rest e h k v = stands_constant a.scope e h r z ty k.new_name v
-plain_stands a (Binary r op x y ty) rest e h k v = stands_number a.scope e h r _ None k.new_name (refl, refl)
-plain_stands a (Cast r kind x from to) rest e h k v = stands_number a.scope e h r _ None k.new_name (refl, refl)
-plain_stands a (Alloc r ty) rest e h k v = stands_alloc a.scope e h r ty k.new_name v
-plain_stands a (Dealloc m ty) rest e h k v = h
-plain_stands a (Start x xa y ya t ta n stride types) rest e h k v = h
-plain_stands a (Wait t at n ty) rest e h k v = h
-plain_stands a Return rest e h k v = h
+plain_stands a p rest e h k v = effect_stands (counted a) (effect_of p) e h k.new_name (safe_effect e p v)
 
 -- the numbers of the next allocations
 plus_none : (t : Totals) (f g : ℕ) → IsCounted t (f + 0) (g + 0) → IsCounted t f g
 plus_none t f g h = record { statements_fit = h.statements_fit; tags_fit = h.tags_fit; fasts = omega (arith, h.fasts); tags = omega (arith, h.tags) }
 
-pub after_counted : (t : Totals) (p : Plain) (e : Env) → IsCounted t (e.fasts + fasts_of_plain p) (e.tags + tags_of_plain p) → IsCounted t (after_plain p e).fasts (after_plain p e).tags
-unfolding after_plain
-after_counted t (Value r pick at) e h = plus_none t e.fasts e.tags h
-after_counted t (Load r m at ty) e h = plus_none t e.fasts e.tags h
-after_counted t (Store x m at ty) e h = plus_none t e.fasts e.tags h
-after_counted t (RawLoad r m at ty) e h = plus_none t e.fasts e.tags h
-after_counted t (RawStore x m at ty) e h = plus_none t e.fasts e.tags h
-after_counted t (Constant r z (scalar.Int element)) e h = plus_none t e.fasts e.tags h
-after_counted t (Constant r z scalar.Index) e h = plus_none t e.fasts e.tags h
-after_counted t (Binary r op x y ty) e h = plus_none t e.fasts e.tags h
-after_counted t (Cast r kind x from to) e h = plus_none t e.fasts e.tags h
-after_counted t (Alloc r ty) e h = by (is_fast ty) h
+effect_counted : (t : Totals) (x : Effect) (e : Env) → IsCounted t (e.fasts + fasts_of_effect x) (e.tags + tags_of_effect x) → IsCounted t (after_effect x e).fasts (after_effect x e).tags
+effect_counted t (NewConstant r z (scalar.Int element)) e h = plus_none t e.fasts e.tags h
+effect_counted t (NewConstant r z scalar.Index) e h = plus_none t e.fasts e.tags h
+effect_counted t (NewMemref r ty) e h = by (is_fast ty) h
   where
     by : (b : Bool) → IsCounted t (e.fasts + (if b then 1 else 0)) (e.tags + (if b then 0 else product ty.sizes))
         → IsCounted t (if b then record e { home = put e.home r (Some (FastMemref e.fasts)); fasts = suc e.fasts } else record e { home = put e.home r (Some (TagMemref e.tags)); tags = e.tags + product ty.sizes }).fasts (if b then record e { home = put e.home r (Some (FastMemref e.fasts)); fasts = suc e.fasts } else record e { home = put e.home r (Some (TagMemref e.tags)); tags = e.tags + product ty.sizes }).tags
     by true h = record { statements_fit = h.statements_fit; tags_fit = h.tags_fit; fasts = omega (arith, h.fasts); tags = omega (arith, h.tags) }
     by false h = record { statements_fit = h.statements_fit; tags_fit = h.tags_fit; fasts = omega (arith, h.fasts); tags = omega (arith, h.tags) }
-after_counted t (Dealloc m ty) e h = plus_none t e.fasts e.tags h
-after_counted t (Start x xa y ya u ta n stride types) e h = plus_none t e.fasts e.tags h
-after_counted t (Wait u at n ty) e h = plus_none t e.fasts e.tags h
-after_counted t Return e h = plus_none t e.fasts e.tags h
+effect_counted t x e h = plus_none t e.fasts e.tags h
+
+pub after_counted : (t : Totals) (p : Plain) (e : Env) → IsCounted t (e.fasts + fasts_of_plain p) (e.tags + tags_of_plain p) → IsCounted t (after_plain p e).fasts (after_plain p e).tags
+unfolding after_plain
+after_counted t p e h = effect_counted t (effect_of p) e h
 
 -- ---- wherever the list of actions is made
 

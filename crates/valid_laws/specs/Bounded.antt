@@ -8,7 +8,8 @@ use Rattle.affine_ast.specs.declared.types.Bound.{Bound}
 use Rattle.affine_ast.specs.declared.types.Bound.TheVariants as bound
 use Rattle.affine_ast.specs.Intervals.{Ranges, first_turn, last_end, turn_range}
 use Rattle.affine_ast.specs.Names.{put}
-use Rattle.affine_ast.specs.Nest.{Plain, Nest, Nothing, Loop, Branch, Does, Value, Load, Store, Start, Wait}
+use Rattle.affine_ast.specs.Nest.{Plain, Nest, Nothing, Loop, Branch, Does}
+use Rattle.affine_ast.specs.Parts.{Every, maps_of}
 use Rattle.affine_ast.specs.Rules.{has_interval, row_bounded, is_small}
 use Rattle.direct_meaning.specs.Work.{ranges_after}
 
@@ -25,12 +26,7 @@ BoundedBound rho (bound.Value n) = Unit {0}
 BoundedBound rho (bound.Map at) = BoundedAccess rho at
 
 abbrev pub BoundedPlain : Ranges → Plain → Type 0
-BoundedPlain rho (Value r pick at) = BoundedAccess rho at
-BoundedPlain rho (Load r m at ty) = BoundedAccess rho at
-BoundedPlain rho (Store x m at ty) = BoundedAccess rho at
-BoundedPlain rho (Start x x_at y y_at t t_at n stride types) = BoundedAccess rho x_at × BoundedAccess rho y_at × BoundedAccess rho t_at
-BoundedPlain rho (Wait t at n ty) = BoundedAccess rho at
-BoundedPlain rho p = Unit {0}
+BoundedPlain rho p = Every (BoundedAccess rho) (maps_of p)
 
 -- so does every bound, condition, subscript and value of the text, each over the ranges of the names round it
 abbrev pub BoundedNest : Nest → Ranges → Type 0

@@ -7,7 +7,8 @@ use Rattle.affine_ast.specs.declared.name.Name.{Name}
 use Rattle.affine_ast.specs.declared.types.Access.{Access}
 use Rattle.affine_ast.specs.declared.types.Bound.{Bound}
 use Rattle.affine_ast.specs.declared.types.Bound.TheVariants as bound
-use Rattle.affine_ast.specs.Nest.{Plain, Nest, Nothing, Loop, Branch, Does, Value, Load, Store, Start, Wait}
+use Rattle.affine_ast.specs.Nest.{Plain, Nest, Nothing, Loop, Branch, Does}
+use Rattle.affine_ast.specs.Parts.{Every, maps_of}
 use Rattle.direct_meaning.specs.Static.{Env, knows, numbers, lower_of, upper_of}
 use Rattle.direct_meaning.specs.Actions.{after_plain, behind}
 
@@ -29,12 +30,7 @@ EvaluableBound e (bound.Value n) = Unit {0}
 EvaluableBound e (bound.Map at) = EvaluableAccess e at
 
 abbrev pub EvaluablePlain : Env → Plain → Type 0
-EvaluablePlain e (Value r pick at) = EvaluableAccess e at
-EvaluablePlain e (Load r m at ty) = EvaluableAccess e at
-EvaluablePlain e (Store x m at ty) = EvaluableAccess e at
-EvaluablePlain e (Start x x_at y y_at t t_at n stride types) = EvaluableAccess e x_at × EvaluableAccess e y_at × EvaluableAccess e t_at
-EvaluablePlain e (Wait t at n ty) = EvaluableAccess e at
-EvaluablePlain e p = Unit {0}
+EvaluablePlain e p = Every (EvaluableAccess e) (maps_of p)
 
 -- so may every expression of the text, in each turn of the loops round it
 abbrev pub EvaluableNest : Nest → Env → Type 0

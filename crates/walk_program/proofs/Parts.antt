@@ -19,8 +19,8 @@ use Rattle.walk_program.specs.declared.plain.Limit.TheVariants as limit
 use Rattle.walk_program.specs.declared.plain.Plain.TheVariants as plain
 use Rattle.walk_program.specs.declared.plain.Subscripts.{Subscripts}
 use Rattle.walk_program.specs.declared.plain.Limit.{Limit}
-use Rattle.affine_ast.specs.Rules.{stride_names}
 use Rattle.walk_program.specs.Names.{name_at, uses_in_bound}
+use Rattle.affine_ast.specs.Parts.{stride_names}
 use Rattle.walk_program.specs.Widths.{width_in_bound}
 use Rattle.walk_program.specs.Numbering.{Table, Grows, Numbers, IsNumber, AreNumbers, AreOperands, IsSubscripts, IsLimit, IsStride, IsPlain, NumbersPlain}
 use Rattle.walk_program.specs.Reading.{plain_of}

@@ -7,9 +7,8 @@ use Rattle.affine_ast.specs.declared.name.Name.{Name}
 use Rattle.affine_ast.specs.declared.types.Bound.{Bound}
 use Rattle.affine_ast.specs.declared.types.Bound.TheVariants as bound
 use Rattle.affine_ast.specs.Names.{same_name}
-use Rattle.affine_ast.specs.Rules.{stride_names}
-use Rattle.affine_ast.specs.Nest.{Plain, Nest, Nothing, Loop, Branch, Does, Value, Load, Store, RawLoad, RawStore}
-use Rattle.affine_ast.specs.Nest.{Constant, Binary, Cast, Alloc, Dealloc, Start, Wait, Return, nest}
+use Rattle.affine_ast.specs.Nest.{Plain, Nest, Nothing, Loop, Branch, Does, nest}
+use Rattle.affine_ast.specs.Parts as parts
 
 -- the name of a number
 abbrev pub name_at : List Name → ℕ → Name
@@ -32,22 +31,9 @@ uses_in_bound (bound.Int z) = []
 uses_in_bound (bound.Value n) = n ∷ []
 uses_in_bound (bound.Map at) = at.operands
 
--- the names in a plain statement, in the order of its parts
+-- the names in a plain statement: the one that it defines, and those that it uses, in the order of its parts
 abbrev pub uses_in_plain : Plain → List Name
-uses_in_plain (Value r pick at) = r ∷ at.operands
-uses_in_plain (Load r m at ty) = r ∷ m ∷ at.operands
-uses_in_plain (Store x m at ty) = x ∷ m ∷ at.operands
-uses_in_plain (RawLoad r m at ty) = r ∷ m ∷ at
-uses_in_plain (RawStore x m at ty) = x ∷ m ∷ at
-uses_in_plain (Constant r z ty) = r ∷ []
-uses_in_plain (Binary r op a b ty) = r ∷ a ∷ b ∷ []
-uses_in_plain (Cast r kind x from to) = r ∷ x ∷ []
-uses_in_plain (Alloc r ty) = r ∷ []
-uses_in_plain (Dealloc m ty) = m ∷ []
-uses_in_plain (Start a a_at b b_at t t_at n stride types) =
-    a ∷ a_at.operands ++ (b ∷ b_at.operands ++ (t ∷ t_at.operands ++ (n ∷ stride_names stride)))
-uses_in_plain (Wait t at n ty) = t ∷ at.operands ++ (n ∷ [])
-uses_in_plain Return = []
+uses_in_plain p = parts.results_of p ++ parts.uses_of p
 
 -- the names in statements, in program order
 abbrev pub uses_in : Nest → List Name

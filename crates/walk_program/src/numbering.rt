@@ -1,9 +1,8 @@
 // The table of names while a module is numbered.
 ghost use Rattle.std.specs.Prelude.{◌≡◌, ℕ, max, [], ◌∷◌, length, IfOk, OnOk};
-ghost use Rattle.walk_program.specs.Numbering.{Table, Numbers, IsNumber, AreNumbers, AreOperands, IsSubscripts};
-ghost use Rattle.walk_program.specs.Numbering.{IsLimit, IsStride, names_of_keys};
-ghost use Rattle.affine_ast.specs.Rules.{stride_names};
+ghost use Rattle.walk_program.specs.Numbering.{Table, Numbers, IsNumber, AreNumbers, AreOperands, IsSubscripts, IsLimit, IsStride, names_of_keys};
 ghost use Rattle.walk_program.specs.Names.{uses_in_bound};
+ghost use Rattle.affine_ast.specs.Parts.{stride_names};
 ghost use Rattle.walk_program.specs.Widths.{width_in_bound};
 
 use crate::plain::{Limit, Subscripts};

@@ -3,6 +3,7 @@ use Rattle.std.specs.Prelude.{◌||◌, nat_lt}
 use Rattle.std.proofs.lemmas.Result.{IfOk-weaker}
 use Rattle.affine_ast.specs.declared.stmt.What as what
 use Rattle.affine_ast.specs.Nest.{nest}
+use Rattle.affine_ast.proofs.Nests.{plain_unless}
 use Rattle.affine_ast.specs.Rules.{deallocs}
 use Rattle.affine_rules.specs.Scoped.{names_of}
 use Rattle.affine_verify.proofs.Released.{in_loop, in_if, in_else, both_noted, noted_step, noted_end}
@@ -23,6 +24,9 @@ note_stmt-returns-in-Some t c = IfOk-weaker c.note_list-in-Some.result _ _
     (in_else m c.args.stmt.now.what c.in-If.set c.in-If.operands c.in-If.first c.in-Some.other (c.in-If.is ∙ ap (what.If c.in-If.set c.in-If.operands c.in-If.first) c.in-Some.is)
     ∙ (λ i. deallocs m (nest (sym c.as_slice-in-If.ensures i)) + deallocs m (nest (sym c.as_slice-in-Some.ensures i)))))
     c.note_list-in-Some.ensures
+
+pub note_stmt-note_plain-requires : goal.note_stmt-note_plain-requires
+note_stmt-note_plain-requires t c = plain_unless c.args.stmt.now.what c.in_default.not-For c.in_default.not-If
 
 pub note_list-loop-stmt-preserved : goal.note_list-loop-stmt-preserved
 note_list-loop-stmt-preserved t c = λ m. noted_step m c.args.stmts.now c.loop-stmt.stmt-index c.stmt-item.result _ _ _ c.loop-stmt-test.true c.stmt-item.is (c.loop-stmt.invariant m) (c.in_ok-note_stmt.ensures m)

@@ -4,9 +4,9 @@ use Rattle.affine_ast.specs.Nest.{Plain, Nest}
 use Rattle.affine_ast.specs.Nest as plain
 use Rattle.affine_verify.specs.Comes.{Plainly}
 use Rattle.affine_verify.specs.Deallocs.{once_of}
-use Rattle.affine_verify.specs.Plains.{plain_of, is_region}
+use Rattle.affine_ast.specs.Nest.{plain_of, is_region}
 use Rattle.affine_verify.proofs.PlainlyLaws.{plainly_kept}
-use Rattle.affine_verify.proofs.Plains.{region-For, region-If, plain-Value, plain-Load, plain-Store, plain-RawLoad, plain-RawStore, plain-Constant, plain-Binary, plain-Cast, plain-Alloc, plain-Dealloc, plain-Start, plain-Wait, plain-Return}
+use Rattle.affine_ast.proofs.Nests.{region-For, region-If, plain-Value, plain-Load, plain-Store, plain-RawLoad, plain-RawStore, plain-Constant, plain-Binary, plain-Cast, plain-Alloc, plain-Dealloc, plain-Start, plain-Wait, plain-Return}
 use Rattle.affine_verify.proofs.walk.plain_stmt.Goals as goal
 
 pub returns-in-Value : goal.returns-in-Value

@@ -5,8 +5,8 @@ use Rattle.affine_expr.specs.Bounded.{range_at}
 use Rattle.affine_ast.specs.Intervals.{first_turn, last_end}
 use Rattle.affine_ast.specs.Nest.{Nothing, nest, put_what}
 use Rattle.affine_ast.specs.declared.stmt.What as what
-use Rattle.affine_verify.specs.Plains.{is_region}
-use Rattle.affine_verify.proofs.Plains.{region-Value, region-Load, region-Store, region-RawLoad, region-RawStore, region-Constant, region-Binary, region-Cast, region-Alloc, region-Dealloc, region-Start, region-Wait, region-Return}
+use Rattle.affine_ast.specs.Nest.{is_region}
+use Rattle.affine_ast.proofs.Nests.{region-Value, region-Load, region-Store, region-RawLoad, region-RawStore, region-Constant, region-Binary, region-Cast, region-Alloc, region-Dealloc, region-Start, region-Wait, region-Return}
 use Rattle.direct_meaning.specs.Work.{turn_count, full_work}
 use Rattle.module_work.specs.Saturated.{saturated}
 use Rattle.module_work.specs.Table.{ranges_of, put_back}

@@ -2,8 +2,8 @@ use Rattle.std.proofs.Common.{◌∙◌, ◌+◌, ap, subst, refl, rules, w64, S
 use Rattle.std.proofs.lemmas.Int.{to_z-of_z}
 use Rattle.affine_ast.specs.Names.{put}
 use Rattle.affine_expr.specs.Spread.{Range}
-use Rattle.affine_verify.specs.Plains.{plain_of}
-use Rattle.affine_verify.proofs.Plains.{plain-Value, plain-Load, plain-Store, plain-RawLoad, plain-RawStore, plain-Constant, plain-Binary, plain-Cast, plain-Alloc, plain-Dealloc, plain-Start, plain-Wait, plain-Return, plain-For, plain-If}
+use Rattle.affine_ast.specs.Nest.{plain_of}
+use Rattle.affine_ast.proofs.Nests.{plain-Value, plain-Load, plain-Store, plain-RawLoad, plain-RawStore, plain-Constant, plain-Binary, plain-Cast, plain-Alloc, plain-Dealloc, plain-Start, plain-Wait, plain-Return, plain-For, plain-If}
 use Rattle.direct_meaning.specs.Turns.{gap}
 use Rattle.module_work.specs.Steps.{range_of_constant}
 use Rattle.module_work.specs.Table.{ranges_of}
