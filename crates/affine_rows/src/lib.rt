@@ -25,3 +25,5 @@ mod texts;
 mod transfers;
 #[cfg(test)]
 mod validity;
+#[cfg(test)]
+mod words;

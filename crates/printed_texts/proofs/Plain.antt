@@ -288,5 +288,5 @@ module _ (R : Regions) (total : ℕ) where
         let h2 = pb.subscripts.small h1 in
         let types = seq (memref_again t wt) (λ r c. refl) (seq comma tt (seq (memref_again u wu) (λ r c. refl) (seq comma tt (giving (λ v. let p : What × ℕ = (what.Start a aa b bb c cc' n s (t ∷ u ∷ v ∷ []), n3) in p) (memref_again v wv))))) in
         let amount = seq (value_prints n wn) (λ r x. subst (λ l. ends l ≡ true) (sym (append_assoc (stride_text s) (codes " : " ++ (memref_text t ++ (codes ", " ++ (memref_text u ++ (codes ", " ++ memref_text v))))) r)) (stride_joins s _ refl)) (seq (stride_again s ws) (λ r x. refl) (seq colon tt types)) in
-        seq start_word tt (seq (part_again a aa total n1 pa h k.0.0) tt (seq comma tt (seq (part_again b bb n1 n2 pb h1 k.0.1.0) tt (seq comma tt (seq (part_again c cc' n2 n3 pc h2 k.0.1.1) tt (seq comma tt amount))))));
+        seq start_word tt (seq (part_again a aa total n1 pa h k.0.0) tt (seq comma tt (seq (part_again b bb n1 n2 pb h1 k.0.1) tt (seq comma tt (seq (part_again c cc' n2 n3 pc h2 k.0.2) tt (seq comma tt amount))))));
   }

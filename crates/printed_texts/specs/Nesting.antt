@@ -10,8 +10,7 @@ use Rattle.affine_ast.specs.declared.types.Bound.TheVariants as bound
 use Rattle.affine_ast.specs.declared.module.Module.{Module}
 unfoldable pub use Rattle.affine_ast.specs.PlainLimits.{depths}
 pub use Rattle.affine_ast.specs.PlainLimits.{Depths, sum_depths, product_depths, unary_depths, literal_depths, depths_step}
-use Rattle.affine_ast.specs.Nest.{Plain, Nest, Nothing, Loop, Branch, Does, nest}
-use Rattle.affine_ast.specs.Parts.{Every, maps_of}
+use Rattle.affine_ast.specs.Nest.{Plain, Value, Load, Store, RawLoad, RawStore, Constant, Binary, Cast, Alloc, Dealloc, Start, Wait, Return, Nest, Nothing, Loop, Branch, Does, nest}
 
 -- the parentheses and negations inside one another in the printed spelling of an expression, where it stands alone
 unfoldable pub printed_nesting : Expr → ℕ
@@ -64,7 +63,19 @@ BoundNests (bound.Value v) = Unit {0}
 BoundNests (bound.Map at) = UseNests at
 
 abbrev pub PlainNests : Plain → Type 0
-PlainNests p = Every UseNests (maps_of p)
+PlainNests (Value r pick at) = UseNests at
+PlainNests (Load r m at ty) = UseNests at
+PlainNests (Store x m at ty) = UseNests at
+PlainNests (RawLoad r m at ty) = Unit {0}
+PlainNests (RawStore x m at ty) = Unit {0}
+PlainNests (Constant r z ty) = Unit {0}
+PlainNests (Binary r op a b ty) = Unit {0}
+PlainNests (Cast r kind x from to) = Unit {0}
+PlainNests (Alloc r ty) = Unit {0}
+PlainNests (Dealloc m ty) = Unit {0}
+PlainNests (Start a aa b bb t ta n stride types) = UseNests aa × UseNests bb × UseNests ta
+PlainNests (Wait t at n ty) = UseNests at
+PlainNests Return = Unit {0}
 
 -- each expression of the statements does
 abbrev pub StatementsNest : Nest → Type 0
