@@ -14,6 +14,8 @@ mod numbers;
 #[cfg(test)]
 mod operations;
 #[cfg(test)]
+mod prompt_runs;
+#[cfg(test)]
 mod runs;
 #[cfg(test)]
 mod streams;
