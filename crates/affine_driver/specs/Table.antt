@@ -1,8 +1,9 @@
 -- The commands of the program: names, options, and whether the program has them.
-use Rattle.std.specs.Prelude.{ℕ, List, [], ◌∷◌, Option, Some, None, codes}
+use Rattle.std.specs.Prelude.{◌≡◌, ℕ, pos, neg_ℤ, List, [], ◌∷◌, Option, Some, None, codes}
 use Rattle.command_words.specs.declared.options.Standing.{Standing}
 use Rattle.command_words.specs.declared.options.Takes.{Takes}
-use Rattle.command_words.specs.declared.options.Takes.TheVariants.{Flag}
+use Rattle.command_words.specs.declared.options.Takes.TheVariants.{Flag, Number}
+use Rattle.command_words.specs.declared.options.Standing.TheVariants.{Built}
 use Rattle.command_words.specs.Options.{OptionRule}
 use Rattle.affine_driver.specs.declared.command.Command.{Command}
 use Rattle.affine_driver.specs.declared.command.Command.TheVariants as command
@@ -67,3 +68,16 @@ options_of first.Both =
     ∷ behind (codes "double") (codes "buffers") BUFFERS BOTH_BUFFERS ∷ alone (codes "capacity") CAPACITY BOTH_CAPACITY
     ∷ alone (codes "filler") FILLER BOTH_FILLER ∷ alone (codes "engines") ENGINES BOTH_ENGINES ∷ []
 options_of first.Sample = alone (codes "number") NUMBER SAMPLE_NUMBER ∷ []
+
+-- the ranges of numbers, both ends counted, and their defaults; and the commands that the program has
+pub record IsAsWritten : Type 0 where
+  pub depth : DEPTH ≡ Number (pos 0) (pos 7) (pos 0)
+  pub buffers : BUFFERS ≡ Number (pos 2) (pos 8) (pos 2)
+  pub capacity : CAPACITY ≡ Number (pos 1) (pos 67108864) (pos 1048576)
+  pub filler : FILLER ≡ Number (neg_ℤ (pos 9223372036854775808)) (pos 9223372036854775807) (pos 0)
+  pub engines : ENGINES ≡ Number (pos 1) (pos 16) (pos 2)
+  pub pick : PICK ≡ Number (pos 0) (pos 9223372036854775807) (pos 0)
+  pub number : NUMBER ≡ Number (pos 0) (pos 999999) (pos 0)
+  pub check : standing_of first.Check ≡ Built
+  pub stage : standing_of first.Stage ≡ Built
+  pub plain : standing_of first.Plain ≡ Built

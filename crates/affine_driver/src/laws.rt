@@ -2,6 +2,7 @@
 ghost use Rattle.affine_driver.specs.declared.command.Command.TheVariants.{Check, Plain, Stage};
 ghost use Rattle.affine_driver.specs.declared.command.StageOptions.{StageOptions};
 ghost use Rattle.affine_driver.specs.Laws.{EndingsAreExact, HasOneOutput};
+ghost use Rattle.affine_driver.specs.Table.{IsAsWritten};
 
 use affine_grammar::texts_are_read_exactly;
 use mem_image::image_texts_are_exact;
@@ -17,3 +18,8 @@ pub fn endings_are_exact()
     texts_are_read_exactly();
     image_texts_are_exact();
 }
+
+/// The table of commands has these ranges and defaults, and these commands are built.
+pub fn table_is_as_written()
+    ensures { IsAsWritten }
+{}

@@ -21,6 +21,6 @@ pub use command::{
     BothOptions, Command, OrderOptions, RegionsOptions, RunOptions, SampleOptions, StageOptions,
 };
 pub use ending::Ending;
-pub use laws::endings_are_exact;
+pub use laws::{endings_are_exact, table_is_as_written};
 pub use limits::{SOURCE_LIMIT, WORK_LIMIT};
 pub use top::stage_main;

@@ -53,7 +53,7 @@ fn answer_words<S: Source, K: Sink>(
     sink: &mut K,
 ) -> Ending
     ensures words { (result ≡ Ending.Memory → ⊥) → ((result ≡ Ending.Words) ↔ AskForNothing (map (λ word. word.now) words.entry.now)) }
-    ensures unasked { result ≡ Ending.Words → source.new ≡ source.old }
+    ensures unasked { AskForNothing (map (λ word. word.now) words.entry.now) → source.new ≡ source.old }
 
     ensures answers { (command : Command) → AsksFor (map (λ word. word.now) words.entry.now) command → Answers SOURCE_LIMIT command result (S.left source.old) (S.left source.new) (K.contents sink.old) (K.contents sink.new) }
     ensures read_fault { result ≡ Ending.ReadFault → Rose (S.faults source.old) (S.faults source.new) }
@@ -80,7 +80,7 @@ pub fn stage_main<S: Source, K: Sink>(
     sink: &mut K,
 ) -> Ending
     ensures words { (result ≡ Ending.Memory → ⊥) → ((result ≡ Ending.Words) ↔ AskForNothing (map (λ word. word.now) words.entry.now)) }
-    ensures unasked { result ≡ Ending.Words → source.new ≡ source.old }
+    ensures unasked { AskForNothing (map (λ word. word.now) words.entry.now) → source.new ≡ source.old }
 
     ensures answers { (command : Command) → AsksFor (map (λ word. word.now) words.entry.now) command → Decides SOURCE_LIMIT command result (S.left source.old) (S.left source.new) (K.contents sink.old) (K.contents sink.new) }
     ensures read_fault { result ≡ Ending.ReadFault → Rose (S.faults source.old) (S.faults source.new) }

@@ -22,3 +22,6 @@ returns-in-Ok-Some-clause-answers g c = λ command asks.
 
 pub returns-in-Ok-None-clause-words : goal.returns-in-Ok-None-clause-words
 returns-in-Ok-None-clause-words g c = λ memory. (λ h command asks. no_command c.in-Ok-None.field-0 command c.in-Ok-None.field-0-is ((c.in-Ok-None.ensures command).1 asks), λ none. refl)
+
+pub returns-in-Ok-Some-clause-unasked : goal.returns-in-Ok-Some-clause-unasked
+returns-in-Ok-Some-clause-unasked g c = λ none. absurd (none c.in-Ok-Some.command ((c.in-Ok-Some.ensures c.in-Ok-Some.command).0 c.in-Ok-Some.field-0-is))

@@ -1,0 +1,16 @@
+use Rattle.std.proofs.Common.{refl}
+use Rattle.affine_driver.proofs.laws.table_is_as_written.Goals as goal
+
+pub returns : goal.returns
+returns c = record {
+  depth = refl;
+  buffers = refl;
+  capacity = refl;
+  filler = refl;
+  engines = refl;
+  pick = refl;
+  number = refl;
+  check = refl;
+  stage = refl;
+  plain = refl;
+}
