@@ -7,7 +7,7 @@ ghost use Rattle.order_laws.specs.Instance.{TwiceOut};
 ghost use Rattle.order_laws.specs.Law.{ValidIsOrderly, ValidOrdersAgree};
 
 /// From every memory that fits a valid module: an allocation isn't allocated when it runs, a started transfer lies
-/// within an allocated half and within its memref, its places are distinct, and its tag is released behind it.
+/// within an allocated half and within slow memory, its places are distinct, and its tag is released behind it.
 pub fn valid_is_orderly()
     ensures { ValidIsOrderly }
 {}

@@ -62,6 +62,7 @@ module _ (n : ℕ) (x : Core) (y : Device) (a : Agree n x y) where
 
   pub in_parts : Parts n x y
   in_parts = record {
+    long = a.bus.long;
     slow = λ i clear. elim (dec_le (length y.state.slow) i) [
       | yes l ↦ get_or_past x.state.slow i (pos 0) (let k = a.bus.long in omega (arith, k, l)) ∙ sym (get_or_past y.state.slow i (pos 0) l)
       | no l ↦ a.bus.ledger.words_are i (omega (arith, l)) (not_pending i clear)
@@ -84,6 +85,7 @@ module _ (n : ℕ) (x : Core) (y : Device) (a : Agree n x y) where
     );
     halves_apart = λ f g p q ef eh. same_flight f g p q
         (own_half (λ m h. tag_of (x.halves m h)) (λ m h. tag_of (x.halves m h)) has has a.away f.transfer.tag g.transfer.tag (with_list y.halves f.transfer) (with_list y.halves g.transfer) (has_of f.transfer.tag f p) (has_of g.transfer.tag g q) ef eh);
+    tags_apart = a.tags_apart;
     outgoing_list = λ f h out. ext_get_or (pos 0) f.cells (prompt_half y f) (copied f h).long (λ c lt. (copied f h).cells_are c (λ inc. absurd (both_ways f.transfer.incoming inc out)));
     incoming_list = λ f h inc c outside. (copied f h).cells_are c (λ _. ⊎_elim (λ (l : c < f.transfer.offset). inl (omega (arith, l))) (λ l. inr l) outside);
     registers = a.registers;

@@ -1,11 +1,11 @@
 -- The agreement of a state of the machine with a state of the prompt meaning, part by part.
-use Rattle.std.specs.Prelude.{◌≡◌, ◌≢◌, ◌⊎◌, ◌↔◌, ℕ, ℤ, ◌+◌, ◌<◌, ◌≤◌, true, false, List, Some}
+use Rattle.std.specs.Prelude.{◌≡◌, ◌≢◌, ◌⊎◌, ◌↔◌, ℕ, ℤ, ◌+◌, ◌<◌, ◌≤◌, true, false, List, length, Some}
 use Rattle.bus_model.specs.Places.{slow_place}
 use Rattle.bus_model.specs.Copies.{number_at}
 use Rattle.bus_model.specs.Engines.{Flight, flight_of}
 use Rattle.prompt_meaning.specs.Device.{Device}
 use Rattle.order_meaning.specs.Machine.{Here, Away, Core, transfers_of}
-use Rattle.order_meaning.specs.Agree.{FlightOk, Agree}
+use Rattle.order_meaning.specs.Agree.{FlightOk, TagsApart, Agree}
 
 -- a transfer is outstanding
 abbrev pub IsOutstanding : Core → Flight → Type 0
@@ -23,7 +23,8 @@ abbrev pub prompt_half : Device → Flight → List ℤ
 prompt_half y f = y.halves f.transfer.fast f.transfer.half
 
 pub record Parts (engines : ℕ) (x : Core) (y : Device) : Type 0 where
-  -- 1: a slow element outside the unmoved parts of outgoing transfers is equal in both
+  -- 1: the slow lists have one length, and a slow element outside the unmoved parts of outgoing transfers is equal in both
+  pub long : length x.state.slow ≡ length y.state.slow
   pub slow : (i : ℕ) → ((f : Flight) (e : ℕ) → IsOutstanding x f → f.transfer.incoming ≡ false → IsUnmoved f e
       → slow_place f.transfer e ≢ i) → number_at x.state.slow i ≡ number_at y.state.slow i
   -- 2: the unmoved element of an outgoing transfer has in its list the value that y has at its slow place
@@ -47,13 +48,14 @@ pub record Parts (engines : ℕ) (x : Core) (y : Device) : Type 0 where
   pub engines_apart : (f g : Flight) (e : ℕ) → IsOutstanding x f → IsOutstanding x g → f.engine ≡ Some e
       → g.engine ≡ Some e → f ≡ g
   -- 6: a half that is here is equal in both; a half is away exactly where the transfer of that tag names it; no two
-  -- transfers have one half
+  -- transfers have one half, or one tag
   pub here : (number half : ℕ) (cells : List ℤ) → x.halves number half ≡ Here cells → cells ≡ y.halves number half
   pub away : (number half tag : ℕ)
       → (x.halves number half ≡ Away tag) ↔ ((f : Flight) × (flight_of x.flights tag ≡ Some f)
       × (f.transfer.fast ≡ number) × (f.transfer.half ≡ half))
   pub halves_apart : (f g : Flight) → IsOutstanding x f → IsOutstanding x g → f.transfer.fast ≡ g.transfer.fast
       → f.transfer.half ≡ g.transfer.half → f ≡ g
+  pub tags_apart : TagsApart y.outstanding
   -- 7: the list of an outgoing transfer, and the cells outside an incoming transfer's elements, equal y's half
   pub outgoing_list : (f : Flight) → IsOutstanding x f → f.transfer.incoming ≡ false → f.cells ≡ prompt_half y f
   pub incoming_list : (f : Flight) → IsOutstanding x f → f.transfer.incoming ≡ true → (c : ℕ)
