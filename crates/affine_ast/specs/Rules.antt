@@ -203,8 +203,8 @@ abbrev pub constant_in_range : Plain → Bool
 constant_in_range (Constant r z ty) = in_signed_range (scalar_bits ty) z
 constant_in_range p = true
 
--- ---- V7: subscripts are as many as the rank, operands as many as parameters; `affine.apply` has one result. The leaves of a
--- map or a set are its parameters
+-- ---- V7: subscripts are as many as the rank, operands as many as parameters; `affine.apply` has one result, a bound, `affine.min`
+-- and `affine.max` one at least. The leaves of a map or a set are its parameters
 
 unfoldable pub map_fits : Access → Bool
 map_fits at = nat_eq (length at.operands) (at.map.dims + at.map.syms) && list_all (has_leaves_below at.map.dims at.map.syms) at.map.results
@@ -219,15 +219,19 @@ set_fits set names = nat_eq (length names) (set.dims + set.syms) && list_all (ro
 unfoldable pub subscripts_fit : Access → MemrefType → Bool
 subscripts_fit at ty = map_fits at && nat_eq (length at.map.results) (length ty.sizes)
 
+-- a greatest or a least is that of one number at least; no text spells a map without results
+abbrev pub has_result : Access → Bool
+has_result at = not (nat_eq (length at.map.results) 0)
+
 abbrev pub bound_fits : Bound → Bool
 bound_fits (bound.Int z) = true
 bound_fits (bound.Value n) = true
-bound_fits (bound.Map at) = map_fits at
+bound_fits (bound.Map at) = map_fits at && has_result at
 
 abbrev pub results_fit : Pick → Access → Bool
 results_fit Apply at = nat_eq (length at.map.results) 1
-results_fit Min at = true
-results_fit Max at = true
+results_fit Min at = has_result at
+results_fit Max at = has_result at
 
 abbrev pub ends_fit : Access → Access → Access → List MemrefType → Bool
 ends_fit x_at y_at t_at (x_ty ∷ y_ty ∷ t_ty ∷ []) = subscripts_fit x_at x_ty && (subscripts_fit y_at y_ty && subscripts_fit t_at t_ty)

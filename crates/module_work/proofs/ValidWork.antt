@@ -9,7 +9,7 @@ use Rattle.affine_ast.specs.declared.types.Bound.TheVariants as bound
 use Rattle.affine_ast.specs.Intervals.{Ranges, first_turn, last_end, turn_range}
 use Rattle.affine_ast.specs.Names.{put}
 use Rattle.affine_ast.specs.Nest.{Plain, Nest, Nothing, Loop, Branch, Does, Value, nest}
-use Rattle.affine_ast.specs.Rules.{map_fits, bound_fits, bound_pure, step_positive, counts_fit, maps_pure, results_fit}
+use Rattle.affine_ast.specs.Rules.{map_fits, has_result, bound_fits, bound_pure, step_positive, counts_fit, maps_pure, results_fit}
 use Rattle.affine_ast.specs.Scope.{Totals, Around, counted, in_loop, in_condition, with_totals, behind_plain}
 use Rattle.affine_ast.specs.Validity.{Passed, then_told, told, rule_of_plain, rule_of_loop, rule_of_condition, IsValid}
 use Rattle.direct_meaning.specs.Work.{ranges_after, start_ranges}
@@ -21,7 +21,7 @@ use Rattle.module_work.specs.Workable.{WorkableBound, WorkablePlain, Workable}
 bound_workable : (rho : Ranges) (b : Bound) → bound_fits b ≡ true → bound_pure b ≡ true → BoundedBound rho b → WorkableBound rho b
 bound_workable rho (bound.Int z) f p b = tt
 bound_workable rho (bound.Value n) f p b = tt
-bound_workable rho (bound.Map at) f p b = record { fits = f; pure = p; bounded = b }
+bound_workable rho (bound.Map at) f p b = record { fits = (and_parts (map_fits at) (has_result at) f).0; pure = p; bounded = b }
 
 plain_workable : (rho : Ranges) (p : Plain) → counts_fit p ≡ true → maps_pure p ≡ true → BoundedPlain rho p → WorkablePlain rho p
 plain_workable rho (Value r pick at) f p b = record { fits = (and_parts (map_fits at) (results_fit pick at) f).0; pure = p; bounded = b }

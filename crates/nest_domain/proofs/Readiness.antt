@@ -11,7 +11,7 @@ use Rattle.affine_ast.specs.declared.types.MemrefType.{MemrefType}
 use Rattle.affine_ast.specs.Intervals.{Ranges, first_turn, last_end, turn_range}
 use Rattle.affine_ast.specs.Names.{put}
 use Rattle.affine_ast.specs.Nest.{Plain, Nest, Nothing, Loop, Branch, Does, Value, Load, Store, RawLoad, RawStore, Constant, Binary, Cast, Alloc, Dealloc, Start, Wait, Return, nest}
-use Rattle.affine_ast.specs.Rules.{map_fits, subscripts_fit, bound_fits, bound_pure, step_positive, counts_fit, maps_pure, results_fit}
+use Rattle.affine_ast.specs.Rules.{map_fits, has_result, subscripts_fit, bound_fits, bound_pure, step_positive, counts_fit, maps_pure, results_fit}
 use Rattle.affine_ast.specs.Scope.{Totals, Around, counted, in_loop, in_condition, with_totals, behind_plain}
 use Rattle.affine_ast.specs.Validity.{Passed, then_told, told, rule_of_plain, rule_of_loop, rule_of_condition, IsValid}
 use Rattle.direct_meaning.specs.Work.{ranges_after, start_ranges}
@@ -25,7 +25,7 @@ use Rattle.nest_domain.specs.Ready.{ReadyHeader, ReadyPlain, ReadyHere, Ready, R
 bound_ready : (rho : Ranges) (b : Bound) → bound_fits b ≡ true → bound_pure b ≡ true → BoundedBound rho b → WorkableBound rho b
 bound_ready rho (bound.Int z) f p b = tt
 bound_ready rho (bound.Value n) f p b = tt
-bound_ready rho (bound.Map at) f p b = record { fits = f; pure = p; bounded = b }
+bound_ready rho (bound.Map at) f p b = record { fits = (and_parts (map_fits at) (has_result at) f).0; pure = p; bounded = b }
 
 subscripts_map : (at : Access) (ty : MemrefType) → subscripts_fit at ty ≡ true → map_fits at ≡ true
 unfolding subscripts_fit

@@ -136,7 +136,7 @@ pub fn bound_fits(bound: &Bound) -> bool
     match bound {
         Bound::Int(_) => true,
         Bound::Value(_) => true,
-        Bound::Map(at) => map_fits(at),
+        Bound::Map(at) => map_fits(at) && !at.map.results.is_empty(),
     }
 }
 
@@ -145,8 +145,8 @@ pub fn results_fit(pick: Pick, at: &Access) -> bool
 {
     match pick {
         Pick::Apply => at.map.results.len() == 1,
-        Pick::Min => true,
-        Pick::Max => true,
+        Pick::Min => !at.map.results.is_empty(),
+        Pick::Max => !at.map.results.is_empty(),
     }
 }
 

@@ -17,7 +17,7 @@ use Rattle.affine_ast.specs.declared.types.Access.{Access}
 use Rattle.affine_ast.specs.declared.types.Bound.{Bound}
 use Rattle.affine_ast.specs.declared.types.Bound.TheVariants as bound
 use Rattle.affine_ast.specs.declared.types.MemrefType.{MemrefType}
-use Rattle.affine_ast.specs.Rules.{map_fits, set_fits, row_has_leaves, access_pure, set_pure, row_pure, has_interval, row_bounded, subscripts_fit, bound_fits, bound_pure, counts_fit, maps_pure, ends_fit, results_fit, step_positive}
+use Rattle.affine_ast.specs.Rules.{map_fits, has_result, set_fits, row_has_leaves, access_pure, set_pure, row_pure, has_interval, row_bounded, subscripts_fit, bound_fits, bound_pure, counts_fit, maps_pure, ends_fit, results_fit, step_positive}
 use Rattle.affine_ast.specs.declared.image.Image.{Image}
 use Rattle.affine_ast.specs.Intervals.{first_turn, last_end, turn_range}
 use Rattle.affine_ast.specs.Names.{put}
@@ -131,7 +131,7 @@ module _ (e : Env) (rho : Ranges) (holds : RangesHold e rho) where
   bound_evaluable : (b : Bound) → bound_fits b ≡ true → bound_pure b ≡ true → BoundedBound rho b → EvaluableBound e b
   bound_evaluable (bound.Int z) f p b = tt
   bound_evaluable (bound.Value n) f p b = tt
-  bound_evaluable (bound.Map at) f p b = access_evaluable at f p b
+  bound_evaluable (bound.Map at) f p b = access_evaluable at (and_parts (map_fits at) (has_result at) f).0 p b
 
   subscripts_map : (at : Access) (ty : MemrefType) → subscripts_fit at ty ≡ true → map_fits at ≡ true
   unfolding subscripts_fit

@@ -18,7 +18,7 @@ use Rattle.affine_ast.specs.declared.types.Pick.{Pick}
 use Rattle.affine_ast.specs.declared.types.Pick.TheVariants.{Apply, Min, Max}
 use Rattle.affine_ast.specs.declared.types.Scalar.{Scalar}
 use Rattle.affine_ast.specs.declared.types.Scalar.TheVariants as scalar
-use Rattle.affine_ast.specs.Rules.{map_fits, set_fits, row_has_leaves, subscripts_fit, results_fit, ends_fit, access_stands, bound_stands, bound_fits, operands_stand, bound_bounded, casts_between, ends_typed, is_memref_of, same_element, are_indexes, ends_in_spaces, shape_within, sizes_positive, rank_within}
+use Rattle.affine_ast.specs.Rules.{map_fits, has_result, set_fits, row_has_leaves, subscripts_fit, results_fit, ends_fit, access_stands, bound_stands, bound_fits, operands_stand, bound_bounded, casts_between, ends_typed, is_memref_of, same_element, are_indexes, ends_in_spaces, shape_within, sizes_positive, rank_within}
 use Rattle.affine_ast.specs.Scope.{Scope, Around, tags_of}
 use Rattle.affine_ast.specs.Sizes.{scalar_bits, product}
 use Rattle.direct_meaning.specs.Action.{Home, FastMemref, TagMemref}
@@ -100,7 +100,7 @@ module _ (s : Scope) (e : Env) (h : ScopeStands s e) where
   pub bound_safe : (b : Bound) → bound_fits b ≡ true → bound_stands s b ≡ true → bound_bounded s b ≡ true → EvaluableBound e b → SafeBound e b
   bound_safe (bound.Int z) f t k v = small_of_test z k
   bound_safe (bound.Value n) f t k v = number_of_dimension s e h n t
-  bound_safe (bound.Map at) f t k v = access_safe at f t v
+  bound_safe (bound.Map at) f t k v = access_safe at (and_parts (map_fits at) (has_result at) f).0 t v
 
   pub lower_safe : (b : Bound) → bound_stands s b ≡ true → bound_bounded s b ≡ true → SafeBound e b → IsSmall (lower_of e b)
   unfolding lower_of
