@@ -1,6 +1,6 @@
 -- The rows of a place: those of the symbols' ranges, of the loops and conditions round it, and of the locals that it uses. The
 -- variables are the index arguments, the loops from the outside in, and then the locals in the order of the text.
-use Rattle.std.specs.Prelude.{ℕ, suc, ◌+◌, ℤ, pos, neg_ℤ, ◌+ℤ◌, ◌-ℤ◌, ◌*ℤ◌, if◌then◌else◌, List, [], ◌∷◌, ◌++◌, length, map, take, drop, Option, Some, None, Result, Ok, Err}
+use Rattle.std.specs.Prelude.{ℕ, suc, ◌+◌, ℤ, pos, neg_ℤ, ◌+ℤ◌, ◌-ℤ◌, ◌*ℤ◌, Bool, if◌then◌else◌, List, [], ◌∷◌, ◌++◌, length, map, take, drop, Option, Some, None, Result, Ok, Err}
 use Rattle.num_row.specs.Ints.{narrowed}
 use Rattle.constraint_set.specs.Points.{LinearRow, LinearSystem}
 use Rattle.constraint_set.specs.Tidy.{all_zero}
@@ -29,7 +29,7 @@ use Rattle.affine_ast.specs.Intervals.{Ranges, range_or, ranges_at, picked_range
 use Rattle.affine_ast.specs.Names.{put}
 use Rattle.affine_ast.specs.Nest.{Plain, Value, Load, RawLoad, Constant, Binary, Cast}
 use Rattle.direct_meaning.specs.Work.{ranges_after}
-use Rattle.nest_domain.specs.Ways.{Header, Round, Given, Except, Behind, Past, has_name, used, loop_count}
+use Rattle.nest_domain.specs.Ways.{Header, Round, Given, Except, Behind, Past, plain_needed, needed, used, loop_count}
 use Rattle.nest_domain.specs.Forms.{try_each, Formed, all_over, all_floor_rows}
 
 -- what a loop goes over: the forms of its lower and of its upper results, and its step
@@ -208,28 +208,38 @@ abbrev pub constant_named : Name → ℤ → Scalar → Known → Known
 constant_named r z (scalar.Int element) k = named r None k
 constant_named r z scalar.Index k = named r (Some (number_form 0 z)) k
 
--- the forms behind a statement, whose value may be among those used
-abbrev pub formed_behind : Plain → List Name → Known → Result Known LinearFault
-formed_behind (Value r pick at) names k = if has_name r names then with_value r pick at k else Ok (named r None k)
-formed_behind (Constant r z ty) names k = Ok (constant_named r z ty k)
-formed_behind (Load r m at ty) names k = Ok (named r None k)
-formed_behind (RawLoad r m at ty) names k = Ok (named r None k)
-formed_behind (Binary r op a b ty) names k = Ok (named r None k)
-formed_behind (Cast r kind x from to) names k = Ok (named r None k)
-formed_behind p names k = Ok k
+-- the forms behind a statement, whose value may be needed
+abbrev pub formed_by : Plain → Bool → Known → Result Known LinearFault
+formed_by (Value r pick at) needed k = if needed then with_value r pick at k else Ok (named r None k)
+formed_by (Constant r z ty) needed k = Ok (constant_named r z ty k)
+formed_by (Load r m at ty) needed k = Ok (named r None k)
+formed_by (RawLoad r m at ty) needed k = Ok (named r None k)
+formed_by (Binary r op a b ty) needed k = Ok (named r None k)
+formed_by (Cast r kind x from to) needed k = Ok (named r None k)
+formed_by p needed k = Ok k
 
-abbrev pub behind_plain : Plain → List Name → Known → Result Known LinearFault
-behind_plain p names k = do
-  g ← formed_behind p names k
+abbrev pub behind_by : Plain → Bool → Known → Result Known LinearFault
+behind_by p needed k = do
+  g ← formed_by p needed k
   Ok (record g { ranges = ranges_after p k.ranges })
 
--- one thing on the way, behind which these names are used
+-- one thing on the way, whose value may be needed behind it
+abbrev pub along_by : Header → Bool → Known → Result Known LinearFault
+along_by (Round v l u s) needed k = in_loop v l u s k
+along_by (Given set operands) needed k = in_condition set operands k
+along_by (Except set operands first) needed k = Ok k
+along_by (Behind p) needed k = behind_by p needed k
+along_by (Past n) needed k = Ok k
+
+-- where these names are used behind it
+abbrev pub formed_behind : Plain → List Name → Known → Result Known LinearFault
+formed_behind p names = formed_by p (plain_needed p names)
+
+abbrev pub behind_plain : Plain → List Name → Known → Result Known LinearFault
+behind_plain p names = behind_by p (plain_needed p names)
+
 abbrev pub along_one : Header → List Name → Known → Result Known LinearFault
-along_one (Round v l u s) names k = in_loop v l u s k
-along_one (Given set operands) names k = in_condition set operands k
-along_one (Except set operands first) names k = Ok k
-along_one (Behind p) names k = behind_plain p names k
-along_one (Past n) names k = Ok k
+along_one h names = along_by h (needed h names)
 
 -- the way to a place that uses names of its own
 unfoldable pub along : List Header → List Name → Known → Result Known LinearFault

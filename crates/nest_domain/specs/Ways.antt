@@ -78,6 +78,18 @@ bound_names (bound.Int z) = []
 bound_names (bound.Value n) = n ∷ []
 bound_names (bound.Map at) = at.operands
 
+-- whether a statement gives a value that is among the names used behind it
+abbrev pub plain_needed : Plain → List Name → Bool
+plain_needed (Value r pick at) names = has_name r names
+plain_needed p names = false
+
+abbrev pub needed : Header → List Name → Bool
+needed (Round v l u s) names = false
+needed (Given set operands) names = false
+needed (Except set operands first) names = false
+needed (Behind p) names = plain_needed p names
+needed (Past n) names = false
+
 -- behind a statement these names are used: with them, before it, its own operands where it gives one of them
 abbrev pub used_before : Plain → List Name → List Name
 used_before (Value r pick at) names = if has_name r names then at.operands ++ names else names
