@@ -2,7 +2,8 @@
 //!
 //! `serve_one` tries the tags in ascending order, and serves the first ready transfer whole. It waits for nothing and takes
 //! no memory. `serve_until` does so until a flag is set, and may wait. A `Gate` is called round an engine's steps, so that a
-//! test can hold them up; it answers nothing that changes a result. The crate stands on `tag_table`.
+//! test can hold them up; it answers nothing that changes a result. `serve_gated` is `serve_one` with a gate. The crate
+//! stands on `tag_table`.
 #![tactic(auto)]
 
 ghost use Rattle.std.specs.Prelude.{◌≡◌, ℕ, ◌<◌, ◌≤◌, List, [], ◌∷◌, ◌++◌, Some, MatchOption, true};
@@ -97,8 +98,8 @@ pub fn serve_until<R: Wait, G: Gate>(
     }
 }
 
-/// `serve_one` with a gate round its steps.
-fn serve_gated<G: Gate>(bus: &Bus, seat: &mut EngineSeat, engine: u32, gate: &G) -> bool
+/// `serve_one` as an engine of this number, with a gate round its steps.
+pub fn serve_gated<G: Gate>(bus: &Bus, seat: &mut EngineSeat, engine: u32, gate: &G) -> bool
     requires { IsIdle bus.now.id seat.old }
     ensures { MatchBool result
         ((ms : List (ℕ × ℕ)) × (t : ℕ) × (t < bus.now.tags) × Missed t ms × (seat.new ≡ with_met seat.old (ms ++ (t, 1) ∷ [])))

@@ -19,7 +19,7 @@ use Rattle.prompt_meaning.specs.Device.{Device, record_of, has_away, put_halves,
 use Rattle.prompt_meaning.specs.Prompt.{prompt_alloc, refused}
 use Rattle.order_meaning.specs.Orderly.{with_room}
 use Rattle.overlap_memory.specs.declared.memory.Memory.{Memory}
-use Rattle.overlap_memory.specs.Tied.{Tied, FastShape, IsAllocated, FollowsTo, with_allocated, with_released, no_halves, half_at, memref_at, tag_of, lists_of, how_many}
+use Rattle.overlap_memory.specs.Tied.{Tied, FastShape, FollowsTo, with_allocated, with_released, no_halves, half_at, memref_at, tag_of, lists_of, how_many}
 use Rattle.overlap_memory.proofs.Lists.{both_ways, if_true, if_false, none_some, started_in, started_by, record_of_started, any_none}
 use Rattle.overlap_memory.proofs.Slow.{goes_on}
 
@@ -104,10 +104,10 @@ module _ (bus : BusShape) (shape : FastShape) (x : Memory) (y : Device) (a : Tie
     lists : (u : ℕ) → started_of (lists_of halves' y.outstanding) u ≡ started_of (lists_of y.halves y.outstanding) u
     lists u = started_by halves' y.outstanding u ∙ same_list u (record_of u y.outstanding) refl ∙ sym (started_by y.halves y.outstanding u)
 
-    here_now : (m h : ℕ) (c : List ℤ) → IsAllocated (with_allocated shape number) m → half_at x'.halves.items m h ≡ Some (here c) → c ≡ halves' m h
+    here_now : (m h : ℕ) (c : List ℤ) → length (halves' m h) ≡ shape.cells m → half_at x'.halves.items m h ≡ Some (here c) → c ≡ halves' m h
     here_now m h c allocated at = elim (ℕ_discrete m number) [
       | yes e ↦ same_here c new (own_half h (here c) (sym (ap (λ n. half_at x'.halves.items n h) e) ∙ at)) ∙ sym (ap (λ n. halves' n h) e ∙ put_own y.halves number new h)
-      | no ne ↦ a.here m h c (sym (with_room_other shape.rooms number m (Some (shape.cells number)) ne) ∙ allocated) (sym (ap (λ (q : HalvesShape). slice_get q.halves h) (other m ne)) ∙ at)
+      | no ne ↦ a.here m h c (ap (λ l. length l) (sym (put_other y.halves number new m h ne)) ∙ allocated) (sym (ap (λ (q : HalvesShape). slice_get q.halves h) (other m ne)) ∙ at)
           ∙ sym (put_other y.halves number new m h ne)
     ]
 
@@ -183,12 +183,6 @@ module _ (bus : BusShape) (shape : FastShape) (x : Memory) (y : Device) (a : Tie
   no_away : has_away y.outstanding number ≡ false → (u : ℕ) (s : Transfer) → record_of u y.outstanding ≡ Some s → s.fast ≢ number
   no_away none u s r e = both_ways (nat_eq s.fast number) (eq-eqb s.fast number e) (any_none (λ t. nat_eq t.fast number) y.outstanding u s none r)
 
-  allocated_before : (m : ℕ) → IsAllocated (with_released shape number) m → IsAllocated shape m
-  allocated_before m room = elim (ℕ_discrete m number) [
-    | yes e ↦ absurd (none_some (with_room shape.rooms number None m) (shape.cells m) (if_true (nat_eq number m) None (shape.rooms m) (eq-eqb number m (sym e))) room)
-    | no ne ↦ sym (with_room_other shape.rooms number m None ne) ∙ room
-  ]
-
   pub release_follows : (element : Element) (sizes : List ℕ) (bytes live' : ℕ) → bytes ≡ bytes_of element sizes → has_away x.records.items number ≡ false → live' ≡ x.live - bytes
       → FollowsTo bus shape (with_released shape number) (Ok tt) (refused (has_away y.outstanding number) Touched y (End (released element sizes y))) (record x { live = live' })
   release_follows element sizes bytes live' many none live =
@@ -209,7 +203,7 @@ module _ (bus : BusShape) (shape : FastShape) (x : Memory) (y : Device) (a : Tie
           memrefs = a.memrefs;
           cells = a.cells;
           halves = a.halves;
-          here = λ m h c room at. a.here m h c (allocated_before m room) at;
+          here = a.here;
           away = a.away;
           allocated = λ u s r. with_room_other shape.rooms number s.fast None (no_away home u s r) ∙ a.allocated u s r;
           rooms = a.rooms;

@@ -1,6 +1,7 @@
 -- The tie is met where a run begins: nothing is started, and each half is here.
-use Rattle.std.proofs.Common.{◌≡◌, ℕ, zero, suc, ℤ, ◌<◌, ◌≤◌, ◌^◌, List, [], length, replicate, sym, refl, ap, ◌∙◌, subst, arith, All}
-use Rattle.std.specs.Prelude.{vec_capacity, Option, None}
+use Rattle.std.proofs.Common.{◌≡◌, ℕ, zero, suc, ℤ, ◌<◌, ◌≤◌, ◌^◌, List, [], ◌∷◌, length, replicate, sym, refl, ap, ◌∙◌, subst, arith, All}
+use Rattle.std.specs.Prelude.{vec_capacity, Option, None, Some}
+use Rattle.fast_halves.specs.Shape.{here}
 use Rattle.bus_model.specs.declared.transfer.Started.{Started}
 use Rattle.tag_table.specs.Rule.{started_at}
 use Rattle.tag_table.specs.Shapes.{BusShape, ComputeShape, IsIdle, fresh_compute}
@@ -17,9 +18,6 @@ use Rattle.overlap_memory.proofs.Lists.{none_some}
 abbrev none : Option Started
 none = None
 
-abbrev no_number : Option ℕ
-no_number = None
-
 idle_all : (n tag : ℕ) → started_at (replicate n None) tag ≡ None
 idle_all zero tag = refl
 idle_all (suc n) zero = refl
@@ -33,9 +31,14 @@ so_many : (n : ℕ) → length (replicate {A = Option Started} n None) ≡ n
 so_many zero = refl
 so_many (suc n) = ap suc (so_many n)
 
+none_there : (c : List ℤ) → length c ≡ 0 → c ≡ []
+none_there [] e = refl
+none_there (z ∷ c) e = absurd (omega (arith, e))
+
 pub tied_at_first : (bus : BusShape) (x : Memory) (words : List ℤ) (y : Device) → x.seat ≡ fresh_compute bus.id words bus.tags → IsIdle bus.id x.helper → bus.words ≡ length words → bus.words < 2 ^ 32
-    → x.records.items ≡ [] → bus.tags ≤ vec_capacity x.records → x.live ≡ 0 → ((number half : ℕ) → tag_of (half_at x.halves.items number half) ≡ None) → IsFirst x.seat.prompt y → Tied bus (shape_at_first x.halves.items) x y
-tied_at_first bus x words y seat helper sized small records room live home first = record {
+    → x.records.items ≡ [] → bus.tags ≤ vec_capacity x.records → x.live ≡ 0 → ((number half : ℕ) → tag_of (half_at x.halves.items number half) ≡ None)
+    → ((number half : ℕ) (cells : List ℤ) → half_at x.halves.items number half ≡ Some (here cells) → length cells ≡ (memref_at x.halves.items number).cells) → IsFirst x.seat.prompt y → Tied bus (shape_at_first x.halves.items) x y
+tied_at_first bus x words y seat helper sized small records room live home whole first = record {
   seat = ap (λ (s : ComputeShape). s.id) seat;
   helper = helper;
   tagged = ap (λ (s : ComputeShape). length s.tags) seat ∙ so_many bus.tags;
@@ -49,7 +52,7 @@ tied_at_first bus x words y seat helper sized small records room live home first
   memrefs = refl;
   cells = λ number. refl;
   halves = λ number. refl;
-  here = λ number half cells allocated e. absurd (none_some no_number (memref_at x.halves.items number).cells refl allocated);
+  here = λ number half cells has e. none_there cells (whole number half cells e ∙ sym has ∙ ap (λ l. length l) (first.halves number half)) ∙ sym (first.halves number half);
   away = λ m h t. ((λ e. absurd (none_some (tag_of (half_at x.halves.items m h)) t (home m h) e)), (λ g. absurd (none_some none g.0 refl (sym (ap (λ ts. started_of (lists_of y.halves ts) t) first.outstanding) ∙ g.1))));
   allocated = λ tag t r. absurd (none_some None t refl (sym (ap (record_of tag) first.outstanding) ∙ r));
   rooms = λ tag t r. absurd (none_some None t refl (sym (ap (record_of tag) first.outstanding) ∙ r));
@@ -60,4 +63,4 @@ tied_at_first bus x words y seat helper sized small records room live home first
 
 -- the first state of the prompt meaning is such a state
 pub first_is_first : (m : Image) → IsFirst (slow_list m.memrefs) (first_device m)
-first_is_first m = record { slow = refl; live = refl; outstanding = refl }
+first_is_first m = record { slow = refl; halves = λ number half. refl; live = refl; outstanding = refl }

@@ -18,7 +18,7 @@ use Rattle.direct_meaning.specs.Direct.{End, keep}
 use Rattle.prompt_meaning.specs.Device.{Device, is_away, record_of, put_half}
 use Rattle.prompt_meaning.specs.Prompt.{prompt_store}
 use Rattle.overlap_memory.specs.declared.memory.Memory.{Memory}
-use Rattle.overlap_memory.specs.Tied.{Tied, FastShape, IsAllocated, Follows, Gives, half_at, memref_at, tag_of, with_list, lists_of, how_many}
+use Rattle.overlap_memory.specs.Tied.{Tied, FastShape, HasCells, Follows, Gives, half_at, memref_at, tag_of, with_list, lists_of, how_many}
 use Rattle.overlap_memory.proofs.Lists.{both_ways, none_some, record_of_started, started_of_record, any_none, any_found, started_in, started_by}
 use Rattle.overlap_memory.proofs.Slow.{goes_on, stops}
 
@@ -66,7 +66,7 @@ module _ (bus : BusShape) (shape : FastShape) (x : Memory) (y : Device) (a : Tie
           (both_true (nat_eq g.0.transfer.fast number) (nat_eq g.0.transfer.half half) (eq-eqb g.0.transfer.fast number g.2) (eq-eqb g.0.transfer.half half g.3)) none)
 
   module _ (number half cell : ℕ) where
-    pub load_gives : IsAllocated shape number → (z : ℤ) (cells : List ℤ) → half_at x.halves.items number half ≡ Some (here cells) → slice_get cells cell ≡ Some z → Gives (Ok z) (Fast number half cell) y
+    pub load_gives : HasCells shape y number half → (z : ℤ) (cells : List ℤ) → half_at x.halves.items number half ≡ Some (here cells) → slice_get cells cell ≡ Some z → Gives (Ok z) (Fast number half cell) y
     load_gives allocated z cells is at r =
         goes_on (is_away y.outstanding number half) Touched y _ (not_away number half (ap tag_of is))
         ∙ ap (λ z. End (record y { state = keep r z y.state })) (ap (λ l. slice_index_or l cell (pos 0)) (sym (a.here number half cells allocated is)) ∙ get_or_from_slice_get cells cell z (pos 0) at)
@@ -77,7 +77,7 @@ module _ (bus : BusShape) (shape : FastShape) (x : Memory) (y : Device) (a : Tie
     pub store_faults : (z : ℤ) (tag : ℕ) → half_at x.halves.items number half ≡ Some (away tag) → Follows bus shape (Err Touched) (prompt_store z (Fast number half cell) y) x
     store_faults z tag is = (y, stops (is_away y.outstanding number half) Touched y _ (is_out number half tag (ap tag_of is)), a)
 
-    module _ (allocated : IsAllocated shape number) (z : ℤ) (cells : List ℤ) (is : half_at x.halves.items number half ≡ Some (here cells)) (there : number < length x.halves.items) (half_in : half < length (memref_at x.halves.items number).halves)
+    module _ (allocated : HasCells shape y number half) (z : ℤ) (cells : List ℤ) (is : half_at x.halves.items number half ≡ Some (here cells)) (there : number < length x.halves.items) (half_in : half < length (memref_at x.halves.items number).halves)
         (x' : Memory) (seat : x'.seat ≡ x.seat) (helper : x'.helper ≡ x.helper) (records : x'.records ≡ x.records) (live : x'.live ≡ x.live)
         (halves : x'.halves.items ≡ changed x.halves.items number half (here (set cells cell z)) there) where
       abbrev halves' : ℕ → ℕ → List ℤ
@@ -110,13 +110,13 @@ module _ (bus : BusShape) (shape : FastShape) (x : Memory) (y : Device) (a : Tie
       own_list : halves' number half ≡ set (y.halves number half) cell z
       own_list = prompt_half_same y.halves number half number half (set (y.halves number half) cell z) (both_true (nat_eq number number) (nat_eq half half) (eq-eqb number number refl) (eq-eqb half half refl))
 
-      here_now : (m h : ℕ) (c : List ℤ) → IsAllocated shape m → half_at x'.halves.items m h ≡ Some (here c) → c ≡ halves' m h
+      here_now : (m h : ℕ) (c : List ℤ) → length (halves' m h) ≡ shape.cells m → half_at x'.halves.items m h ≡ Some (here c) → c ≡ halves' m h
       here_now m h c room at = elim (ℕ_discrete m number) [
         | yes p ↦ elim (ℕ_discrete h half) [
           | yes q ↦ same_here c (set cells cell z) (sym at ∙ (λ k. half_at x'.halves.items (p k) (q k)) ∙ own) ∙ ap (λ l. set l cell z) (a.here number half cells allocated is) ∙ sym own_list ∙ (λ k. halves' (sym p k) (sym q k))
-          | no ne ↦ let w : m ≡ number → h ≡ half → ⊥ = λ _ q. ne q in a.here m h c room (sym (elsewhere m h w) ∙ at) ∙ sym (other m h w)
+          | no ne ↦ let w : m ≡ number → h ≡ half → ⊥ = λ _ q. ne q in a.here m h c (ap (λ l. length l) (sym (other m h w)) ∙ room) (sym (elsewhere m h w) ∙ at) ∙ sym (other m h w)
         ]
-        | no ne ↦ let w : m ≡ number → h ≡ half → ⊥ = λ p _. ne p in a.here m h c room (sym (elsewhere m h w) ∙ at) ∙ sym (other m h w)
+        | no ne ↦ let w : m ≡ number → h ≡ half → ⊥ = λ p _. ne p in a.here m h c (ap (λ l. length l) (sym (other m h w)) ∙ room) (sym (elsewhere m h w) ∙ at) ∙ sym (other m h w)
       ]
 
       tag_now : (m h : ℕ) → tag_of (half_at x'.halves.items m h) ≡ tag_of (half_at x.halves.items m h)
@@ -159,7 +159,7 @@ module _ (bus : BusShape) (shape : FastShape) (x : Memory) (y : Device) (a : Tie
         },
       )
 
-    pub store_follows_as : IsAllocated shape number → (z w : ℤ) → w ≡ z → (cells : List ℤ) → half_at x.halves.items number half ≡ Some (here cells) → (there : number < length x.halves.items) → half < length (memref_at x.halves.items number).halves
+    pub store_follows_as : HasCells shape y number half → (z w : ℤ) → w ≡ z → (cells : List ℤ) → half_at x.halves.items number half ≡ Some (here cells) → (there : number < length x.halves.items) → half < length (memref_at x.halves.items number).halves
         → (x' : Memory) → x'.seat ≡ x.seat → x'.helper ≡ x.helper → x'.records ≡ x.records → x'.live ≡ x.live
         → x'.halves.items ≡ changed x.halves.items number half (here (set cells cell w)) there → Follows bus shape (Ok tt) (prompt_store z (Fast number half cell) y) x'
     store_follows_as allocated z w e cells is there half_in x' s h r l halves = store_follows allocated z cells is there half_in x' s h r l (halves ∙ ap (λ v. changed x.halves.items number half (here (set cells cell v)) there) e)

@@ -29,7 +29,7 @@ use Rattle.tag_table.specs.Rule.{started_at}
 use Rattle.tag_table.specs.Shapes.{BusShape, IsIdle, ComputeShape, MayStart, after_start, with_tag, with_prompt}
 use Rattle.prompt_meaning.specs.Device.{Device, record_of, is_started, is_away, start_races, put_half, started, recorded, copied_in, copied_out}
 use Rattle.overlap_memory.specs.declared.memory.Memory.{Memory}
-use Rattle.overlap_memory.specs.Tied.{Tied, FastShape, IsAllocated, CanStart, IsPlaced, half_at, memref_at, tag_of, with_list, lists_of, how_many}
+use Rattle.overlap_memory.specs.Tied.{Tied, FastShape, IsAllocated, HasCells, CanStart, IsPlaced, half_at, memref_at, tag_of, with_list, lists_of, how_many}
 use Rattle.overlap_memory.proofs.Lists.{both_ways, if_true, if_false, same_some, started_in, started_by, any_none, record_behind, record_before, tags_behind}
 use Rattle.overlap_memory.proofs.Changed.{changed, changed_length, half_same, half_other, cells_same, halves_same}
 use Rattle.overlap_memory.proofs.Counts.{count_start, count_less, not_started}
@@ -138,13 +138,13 @@ module _ (bus : BusShape) (shape : FastShape) (x : Memory) (y : Device) (a : Tie
     elsewhere : (m h : ℕ) → (m ≡ t.fast → h ≡ t.half → ⊥) → half_at x'.halves.items m h ≡ half_at x.halves.items m h
     elsewhere m h ne = ap (λ hs. half_at hs m h) halves ∙ half_other x.halves.items t.fast t.half (away t.tag) can.fast m h ne
 
-    here_now : (m h : ℕ) (c : List ℤ) → IsAllocated shape m → half_at x'.halves.items m h ≡ Some (here c) → c ≡ halves' m h
+    here_now : (m h : ℕ) (c : List ℤ) → length (halves' m h) ≡ shape.cells m → half_at x'.halves.items m h ≡ Some (here c) → c ≡ halves' m h
     here_now m h c allocated is = elim (ℕ_discrete m t.fast) [
       | yes p ↦ elim (ℕ_discrete h t.half) [
         | yes q ↦ absurd (not_here t.tag c (sym ((λ k. half_at x'.halves.items (p k) (q k)) ∙ own) ∙ is))
-        | no ne ↦ let w : m ≡ t.fast → h ≡ t.half → ⊥ = λ _ q. ne q in a.here m h c allocated (sym (elsewhere m h w) ∙ is) ∙ sym (other m h w)
+        | no ne ↦ let w : m ≡ t.fast → h ≡ t.half → ⊥ = λ _ q. ne q in a.here m h c (ap (λ l. length l) (sym (other m h w)) ∙ allocated) (sym (elsewhere m h w) ∙ is) ∙ sym (other m h w)
       ]
-      | no ne ↦ let w : m ≡ t.fast → h ≡ t.half → ⊥ = λ p _. ne p in a.here m h c allocated (sym (elsewhere m h w) ∙ is) ∙ sym (other m h w)
+      | no ne ↦ let w : m ≡ t.fast → h ≡ t.half → ⊥ = λ p _. ne p in a.here m h c (ap (λ l. length l) (sym (other m h w)) ∙ allocated) (sym (elsewhere m h w) ∙ is) ∙ sym (other m h w)
     ]
 
     tag_in : t.tag < length x.seat.tags
@@ -204,7 +204,7 @@ module _ (bus : BusShape) (shape : FastShape) (x : Memory) (y : Device) (a : Tie
       room = let e = room in let r = a.room in omega (arith, e, r);
     }
 
-module _ (bus : BusShape) (shape : FastShape) (x : Memory) (before : FastShape) (k : Device) (b : Tied bus before x k) (y : Device) (a : Tied bus shape x y) (t : Transfer) (can : CanStart bus x t) (is_allocated : IsAllocated shape t.fast) (idle_k : is_started k.outstanding t.tag ≡ false) (home_k : is_away k.outstanding t.fast t.half ≡ false)
+module _ (bus : BusShape) (shape : FastShape) (x : Memory) (before : FastShape) (k : Device) (b : Tied bus before x k) (y : Device) (a : Tied bus shape x y) (t : Transfer) (can : CanStart bus x t) (is_allocated : IsAllocated shape t.fast) (has : HasCells shape y t.fast t.half) (idle_k : is_started k.outstanding t.tag ≡ false) (home_k : is_away k.outstanding t.fast t.half ≡ false)
     (cells : List ℤ) (is : half_at x.halves.items t.fast t.half ≡ Some (here cells)) (whole : length cells ≡ (memref_at x.halves.items t.fast).cells)
     (x' : Memory) (seat : x'.seat ≡ after_start x.seat t.tag t cells) (helper : x'.helper ≡ x.helper) (halves : x'.halves.items ≡ changed x.halves.items t.fast t.half (away t.tag) can.fast)
     (records : x'.records.items ≡ x.records.items ++ t ∷ []) (live : x'.live ≡ x.live) (room : vec_capacity x'.records ≡ vec_capacity x.records) where
@@ -221,7 +221,7 @@ module _ (bus : BusShape) (shape : FastShape) (x : Memory) (before : FastShape) 
   half = y.halves t.fast t.half
 
   cells_are : cells ≡ y.halves t.fast t.half
-  cells_are = a.here t.fast t.half cells is_allocated is
+  cells_are = a.here t.fast t.half cells has is
 
   abbrev new_half : List ℤ
   new_half = moved_in t y.state.slow (y.halves t.fast t.half)

@@ -12,7 +12,7 @@ use Rattle.tag_table.specs.Rule.{started_at}
 use Rattle.tag_table.specs.Shapes.{BusShape, IsIdle}
 use Rattle.prompt_meaning.specs.Device.{Device, record_of, without}
 use Rattle.overlap_memory.specs.declared.memory.Memory.{Memory}
-use Rattle.overlap_memory.specs.Tied.{Tied, FastShape, IsAllocated, half_at, memref_at, tag_of, with_list, lists_of, how_many, IsPlaced}
+use Rattle.overlap_memory.specs.Tied.{Tied, FastShape, IsAllocated, HasCells, half_at, memref_at, tag_of, with_list, lists_of, how_many, IsPlaced}
 use Rattle.overlap_memory.proofs.Lists.{none_some, same_some, started_in, started_by, started_of_record, record_without, record_gone, tags_without}
 use Rattle.overlap_memory.proofs.Changed.{changed, changed_length, half_same, half_other, cells_same, halves_same, half_there}
 use Rattle.overlap_memory.proofs.Counts.{started_below, count_stop, length_without, all_without}
@@ -71,7 +71,7 @@ module _ (bus : BusShape) (shape : FastShape) (x : Memory) (y : Device) (a : Tie
     other : (m h : ℕ) → (m ≡ t.fast → h ≡ t.half → ⊥) → half_at x'.halves.items m h ≡ half_at x.halves.items m h
     other m h ne = ap (λ hs. half_at hs m h) halves ∙ half_other x.halves.items t.fast t.half (here cells) memref_there m h ne
 
-    here_now : (m h : ℕ) (c : List ℤ) → IsAllocated shape m → half_at x'.halves.items m h ≡ Some (here c) → c ≡ y.halves m h
+    here_now : (m h : ℕ) (c : List ℤ) → HasCells shape y m h → half_at x'.halves.items m h ≡ Some (here c) → c ≡ y.halves m h
     here_now m h c allocated is = elim (ℕ_discrete m t.fast) [
       | yes p ↦ elim (ℕ_discrete h t.half) [
         | yes q ↦ same_here c cells (sym is ∙ (λ k. half_at x'.halves.items (p k) (q k)) ∙ own) ∙ cells_are ∙ (λ k. y.halves (sym p k) (sym q k))

@@ -53,6 +53,10 @@ with_released shape number = record shape { rooms = with_room shape.rooms number
 abbrev pub IsAllocated : FastShape → ℕ → Type 0
 IsAllocated shape number = shape.rooms number ≡ Some (shape.cells number)
 
+-- the prompt half has the memref's cells, as each has from the memref's first allocation on
+abbrev pub HasCells : FastShape → Device → ℕ → ℕ → Type 0
+HasCells shape y number half = length (y.halves number half) ≡ shape.cells number
+
 -- ---- the outstanding transfers
 
 -- a transfer on record, with the list that its half has where it was copied at its start
@@ -102,9 +106,9 @@ pub record Tied (bus : BusShape) (shape : FastShape) (x : Memory) (y : Device) :
   pub memrefs : length x.halves.items ≡ shape.count
   pub cells : (number : ℕ) → (memref_at x.halves.items number).cells ≡ shape.cells number
   pub halves : (number : ℕ) → length (memref_at x.halves.items number).halves ≡ shape.halves number
-  -- a half of an allocated memref that is here is the prompt one; a half is away exactly where an outstanding transfer
-  -- names it
-  pub here : (number half : ℕ) (cells : List ℤ) → IsAllocated shape number
+  -- a half that is here is the prompt one, from its memref's first allocation on; a half is away exactly where an
+  -- outstanding transfer names it
+  pub here : (number half : ℕ) (cells : List ℤ) → HasCells shape y number half
       → half_at x.halves.items number half ≡ Some (here cells) → cells ≡ y.halves number half
   pub away : HalvesAway (λ number half. tag_of (half_at x.halves.items number half))
       (started_of (lists_of y.halves y.outstanding))

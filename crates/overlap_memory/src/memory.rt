@@ -5,6 +5,7 @@ ghost use Rattle.std.specs.List.{All, remove};
 ghost use Rattle.int_ops.specs.Wrapped.{wrapped};
 ghost use Rattle.affine_ast.specs.declared.types.Element.{Element as TheElement};
 ghost use Rattle.bus_model.specs.declared.step.FaultKind.TheVariants.{Touched, Tag};
+ghost use Rattle.fast_halves.specs.Shape.{here};
 ghost use Rattle.tag_table.specs.Shapes.{IsIdle, fresh_compute};
 ghost use Rattle.direct_meaning.specs.Static.{element_bits};
 ghost use Rattle.direct_meaning.specs.Action.{Slow, Fast};
@@ -13,7 +14,7 @@ ghost use Rattle.direct_meaning.specs.Direct.{End};
 ghost use Rattle.prompt_meaning.specs.Device.{Device, is_started, is_away, has_away, has_started, start_races, started};
 ghost use Rattle.prompt_meaning.specs.Device.{record_of, without, bytes_of, released};
 ghost use Rattle.prompt_meaning.specs.Prompt.{prompt_load, prompt_store, prompt_start, prompt_alloc, wait_on, refused};
-ghost use Rattle.overlap_memory.specs.Tied.{Tied, FastShape, IsAllocated, Follows, FollowsTo, Gives, CanStart};
+ghost use Rattle.overlap_memory.specs.Tied.{Tied, FastShape, IsAllocated, HasCells, Follows, FollowsTo, Gives, CanStart};
 ghost use Rattle.overlap_memory.specs.Tied.{memref_at, half_at, tag_of, with_allocated, with_released};
 ghost use Rattle.overlap_memory.specs.First.{IsFirst, shape_at_first};
 
@@ -23,6 +24,7 @@ use crate::records::{
 };
 use crate::waiting::wait_for;
 use bus_model::{FaultKind, Transfer};
+use dma_engine::Gate;
 use fast_halves::Halves;
 use std::alloc::{AllocError, Global};
 use std::sync::Wait;
@@ -52,6 +54,8 @@ impl Memory {
             × (bus.now.words ≡ length words) × (bus.now.words < 2 ^ 32) }
         requires helper { IsIdle bus.now.id helper }
         requires halves { (number half : ℕ) → tag_of (half_at halves.items number half) ≡ None }
+        requires whole { (number half : ℕ) (cells : List ℤ) → half_at halves.items number half ≡ Some (here cells)
+            → length cells ≡ (memref_at halves.items number).cells }
         ensures { IfOk result (λ memory. (y : Device) → IsFirst seat.prompt y
             → Tied bus.now (shape_at_first halves.items) memory y) }
     {
@@ -69,7 +73,8 @@ impl Memory {
         requires tied { (shape : FastShape) × (y : Device) × Tied bus.now shape self.old y }
         requires can { CanStart bus.now self.old transfer }
         ensures follows { (shape : FastShape) (y : Device) → Tied bus.now shape self.old y
-            → IsAllocated shape transfer.fast → Follows bus.now shape result (prompt_start transfer y) self.new }
+            → IsAllocated shape transfer.fast → HasCells shape y transfer.fast transfer.half
+            → Follows bus.now shape result (prompt_start transfer y) self.new }
     {
         if is_started(self.records.as_slice(), transfer.tag) {
             return Err(FaultKind::Tag);
@@ -92,7 +97,8 @@ impl Memory {
             × (start_races y.outstanding transfer ≡ false) }
         requires can { CanStart bus.now self.old transfer }
         ensures tied { (shape : FastShape) (y : Device) → Tied bus.now shape self.old y
-            → IsAllocated shape transfer.fast → Tied bus.now shape self.new (started transfer y) }
+            → IsAllocated shape transfer.fast → HasCells shape y transfer.fast transfer.half
+            → Tied bus.now shape self.new (started transfer y) }
     {
         let Ok(cells) = self.halves[transfer.fast as usize].lend(transfer.half, transfer.tag) else {
             unreachable!()
@@ -110,12 +116,13 @@ impl Memory {
     }
 
     /// Waits for the transfer of a tag.
-    pub fn wait<R: Wait>(
+    pub fn wait<R: Wait, G: Gate>(
         &mut self,
         rt: &R,
         bus: &Bus,
+        gate: &G,
         tag: u32,
-        count: u32,
+        count: u64,
     ) -> Result<(), FaultKind>
         requires tied { (shape : FastShape) × (y : Device) × Tied bus.now shape self.old y }
         ensures follows { (shape : FastShape) (y : Device) → Tied bus.now shape self.old y
@@ -124,21 +131,21 @@ impl Memory {
         let Some((place, transfer)) = position(self.records.as_slice(), tag) else {
             return Err(FaultKind::Tag);
         };
-        if transfer.count != count {
+        if transfer.count as u64 != count {
             return Err(FaultKind::Shape);
         }
-        self.collect(rt, bus, tag, place, transfer);
+        self.collect(rt, bus, gate, tag, place, transfer);
         Ok(())
     }
 
     /// Takes every started transfer back, as a fault asks for before the bus is closed.
-    pub fn drain<R: Wait>(&mut self, rt: &R, bus: &Bus)
+    pub fn drain<R: Wait, G: Gate>(&mut self, rt: &R, bus: &Bus, gate: &G)
         requires tied { (shape : FastShape) × (y : Device) × Tied bus.now shape self.old y }
         ensures tied { (shape : FastShape) (y : Device) → Tied bus.now shape self.old y
             → Tied bus.now shape self.new record y { outstanding = [] } }
     {
         while let Some(transfer) = first(self.records.as_slice()) {
-            self.collect(rt, bus, transfer.tag, 0, transfer);
+            self.collect(rt, bus, gate, transfer.tag, 0, transfer);
         }
     }
 
@@ -163,7 +170,15 @@ impl Memory {
     }
 
     /// Takes a started transfer back.
-    fn collect<R: Wait>(&mut self, rt: &R, bus: &Bus, tag: u32, place: usize, transfer: Transfer)
+    fn collect<R: Wait, G: Gate>(
+        &mut self,
+        rt: &R,
+        bus: &Bus,
+        gate: &G,
+        tag: u32,
+        place: usize,
+        transfer: Transfer,
+    )
         requires tied { (shape : FastShape) × (y : Device) × Tied bus.now shape self.old y }
         requires place { (place < length self.old.records.items)
             × (record_of tag self.old.records.items ≡ Some transfer)
@@ -173,7 +188,8 @@ impl Memory {
         ensures fewer { length self.new.records.items < length self.old.records.items }
     {
         forget(&mut self.records, place);
-        let parcel = wait_for(rt, bus, &mut self.seat, &mut self.helper, tag);
+        gate.before_collect(tag);
+        let parcel = wait_for(rt, bus, gate, &mut self.seat, &mut self.helper, tag);
         self.halves[transfer.fast as usize].accept(transfer.half, parcel.cells);
     }
 
@@ -210,7 +226,7 @@ impl Memory {
         requires place { (number < length self.now.halves.items)
             × (half < length (memref_at self.now.halves.items number).halves)
             × (cell < (memref_at self.now.halves.items number).cells) }
-        ensures gives { (shape : FastShape) (y : Device) → Tied bus.now shape self.now y → IsAllocated shape number
+        ensures gives { (shape : FastShape) (y : Device) → Tied bus.now shape self.now y → HasCells shape y number half
             → Gives result (Fast number half cell) y }
     {
         match self.halves[number as usize].read(half, cell) {
@@ -232,7 +248,7 @@ impl Memory {
         requires place { (number < length self.old.halves.items)
             × (half < length (memref_at self.old.halves.items number).halves)
             × (cell < (memref_at self.old.halves.items number).cells) }
-        ensures follows { (shape : FastShape) (y : Device) → Tied bus.now shape self.old y → IsAllocated shape number
+        ensures follows { (shape : FastShape) (y : Device) → Tied bus.now shape self.old y → HasCells shape y number half
             → Follows bus.now shape result (prompt_store value (Fast number half cell) y) self.new }
     {
         match self.halves[number as usize].write(half, cell, value) {
@@ -286,7 +302,6 @@ impl Memory {
 
     /// Releases tags, unless one of them is started.
     pub fn release_tags(&mut self, bus: &Bus, first: u32, count: u32) -> Result<(), FaultKind>
-        requires { first + count < 2 ^ 32 }
         ensures follows { (shape : FastShape) (y : Device) → Tied bus.now shape self.old y
             → Follows bus.now shape result (refused (has_started y.outstanding first count) Tag y (End y)) self.new }
     {

@@ -114,11 +114,12 @@ pub fn first(records: &[Transfer]) -> Option<Transfer>
 
 /// Whether one of so many tags from the first on is started.
 pub fn has_started(records: &[Transfer], first: u32, count: u32) -> bool
-    requires { first + count < 2 ^ 32 }
     ensures { result ≡ has_started records.now first count }
 {
-    let end = first + count;
-    records.iter().any(|t| first <= t.tag && t.tag < end)
+    let end = first as u64 + count as u64;
+    records
+        .iter()
+        .any(|t| first <= t.tag && (t.tag as u64) < end)
 }
 
 /// Puts a record behind all others. The others keep their order.

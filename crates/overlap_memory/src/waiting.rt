@@ -4,15 +4,27 @@ ghost use Rattle.bus_model.specs.declared.transfer.Started.{Started};
 ghost use Rattle.tag_table.specs.Rule.{started_at};
 ghost use Rattle.tag_table.specs.Shapes.{IsIdle};
 
-use dma_engine::serve_one;
+use dma_engine::{Gate, serve_gated};
 use std::sync::Wait;
 use std::thread;
 use tag_table::{Bus, ComputeSeat, EngineSeat, Parcel};
 
+/// Serves as engine 0 where the gate lets it. False where no transfer was served.
+fn help<G: Gate>(bus: &Bus, helper: &mut EngineSeat, gate: &G) -> bool
+    requires { IsIdle bus.now.id helper.old }
+    ensures { IsIdle bus.now.id helper.new }
+{
+    if !gate.may_help() {
+        return false;
+    }
+    serve_gated(bus, helper, 0, gate)
+}
+
 /// Takes a started transfer back, and serves as an engine until one is done with it.
-pub fn wait_for<R: Wait>(
+pub fn wait_for<R: Wait, G: Gate>(
     rt: &R,
     bus: &Bus,
+    gate: &G,
     seat: &mut ComputeSeat,
     helper: &mut EngineSeat,
     tag: u32,
@@ -32,7 +44,7 @@ pub fn wait_for<R: Wait>(
             Ok(parcel) => return parcel,
             Err(_) => {}
         }
-        if !serve_one(bus, helper) {
+        if !help(bus, helper, gate) {
             thread::yield_now();
         }
     }

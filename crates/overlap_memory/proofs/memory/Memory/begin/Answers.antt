@@ -24,10 +24,10 @@ start-requires-clause-parcel c =
 
 pub returns : goal.returns
 returns c = record {
-  tied = λ shape y t allocated.
+  tied = λ shape y t allocated has.
       let k = c.requires.tied in
       let can = c.requires.can in
       let m = memref_is _ _ _ can.fast c.index_mut.ensures.value in
-      begun_as _ _ _ _ k.1 k.2 y t c.args.transfer can allocated k.3 k.4 c.in-Ok.cells.items (ap (λ (m : HalvesShape). slice_get m.halves c.args.transfer.half) (sym m) ∙ c.in-Ok.ensures.halves.0) (c.in-Ok.ensures.halves.1 ∙ ap (λ (m : HalvesShape). m.cells) m)
+      begun_as _ _ _ _ k.1 k.2 y t c.args.transfer can allocated has k.3 k.4 c.in-Ok.cells.items (ap (λ (m : HalvesShape). slice_get m.halves c.args.transfer.half) (sym m) ∙ c.in-Ok.ensures.halves.0) (c.in-Ok.ensures.halves.1 ∙ ap (λ (m : HalvesShape). m.cells) m)
       _ c.start.ensures refl (changed_is _ c.args.transfer.fast c.args.transfer.half _ can.fast _ _ m c.lend.ensures.cells c.in-Ok.ensures.halves.2) c.push_reserved.ensures.items refl c.push_reserved.ensures.capacity;
 }

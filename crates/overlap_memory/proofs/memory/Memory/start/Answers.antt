@@ -13,9 +13,9 @@ start_races-requires-clause-transfer c = let y = c.requires.tied in (c.args.bus.
 
 pub returns : goal.returns
 returns c = record {
-  follows = λ shape y t allocated.
+  follows = λ shape y t allocated has.
       let idle = ap (λ ts. is_started ts c.args.transfer.tag) (sym t.records ∙ sym c.as_slice.ensures.value) ∙ sym c.is_started.ensures ∙ c.if-is_started.false in
       let home = ap (λ ts. is_away ts c.args.transfer.fast c.args.transfer.half) (sym t.records ∙ sym c.as_slice-2.ensures.value) ∙ sym c.is_away.ensures ∙ c.if-is_away.false in
       let apart = ap (λ ts. start_races ts c.args.transfer) (sym t.records ∙ sym c.as_slice-3.ensures.value) ∙ sym c.start_races.ensures ∙ c.if-start_races.false in
-      (started c.args.transfer y, start_passes c.args.transfer y idle home apart, c.begin.ensures.tied shape y t allocated);
+      (started c.args.transfer y, start_passes c.args.transfer y idle home apart, c.begin.ensures.tied shape y t allocated has);
 }
