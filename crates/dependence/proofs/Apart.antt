@@ -123,11 +123,10 @@ pub record IsLater (o l : List ℤ) (i : ℕ) (t : ℤ) (r s : LinearRow) : Type
 
 later_gives : (o l : List ℤ) (i : ℕ) (t : ℤ) (r : LinearRow) → i < length o → Gives (later (length o) (length l) i t r) (IsLater o l i t r)
 later_gives o l i t r h =
-    then_by (or_wide (narrowed (coef i r *ℤ t))) _ (λ x. x ≡ coef i r *ℤ t) (IsLater o l i t r) (narrow_gives (coef i r *ℤ t)) (λ move e.
-    then_by (or_wide (narrowed (r.constant +ℤ move))) _ (λ x. x ≡ r.constant +ℤ move) (IsLater o l i t r) (narrow_gives (r.constant +ℤ move)) (λ k f. record {
+    then_by (or_wide (narrowed (r.constant +ℤ coef i r *ℤ t))) _ (λ x. x ≡ r.constant +ℤ coef i r *ℤ t) (IsLater o l i t r) (narrow_gives (r.constant +ℤ coef i r *ℤ t)) (λ k f. record {
       coefs = refl;
-      same = λ more. both more move k e f;
-    }))
+      same = λ more. both more (coef i r *ℤ t) k refl f;
+    })
   where
     both : (more : List ℤ) (move k : ℤ) → move ≡ coef i r *ℤ t → k ≡ r.constant +ℤ move → points.dot (spread (length o) (length l) r.coefs) (o ++ (l ++ more)) +ℤ k ≡ points.dot r.coefs (later_turn o i t ++ more) +ℤ r.constant
     both more move k e f =

@@ -13,11 +13,10 @@ spread (suc n) m [] = []
 spread (suc n) m (c ∷ cs) = c ∷ spread n m cs
 
 -- of a row over n outer variables and m locals, the row at the later turn: variable i is t more, and the locals are those
--- behind the first turn's
+-- behind the first turn's. The product goes into the constant, and needn't fit by itself
 abbrev pub later : ℕ → ℕ → ℕ → ℤ → LinearRow → Result LinearRow Refusal
 later n m i t r = do
-  move ← or_wide (narrowed (coef i r *ℤ t))
-  constant ← or_wide (narrowed (r.constant +ℤ move))
+  constant ← or_wide (narrowed (r.constant +ℤ coef i r *ℤ t))
   Ok (record { coefs = spread n m r.coefs; constant = constant })
 
 abbrev pub all_later : ℕ → ℕ → ℕ → ℤ → List LinearRow → Result (List LinearRow) Refusal

@@ -6,7 +6,7 @@ ghost use Rattle.projection.specs.Answers.{Meets, Appends};
 ghost use Rattle.dependence.specs.Clashes.{spread, later, all_later};
 
 use constraint_set::Row;
-use num_row::{exact_add, exact_mul};
+use exact_sums::add_product;
 use projection::ReachFault;
 use std::alloc::{AllocError, Global};
 
@@ -58,10 +58,8 @@ impl LaterTurn {
         requires var { self.var < self.outer }
         ensures { Meets (later self.outer self.locals self.var self.distance row.now) (λ r. r) result }
     {
-        let Some(change) = exact_mul(row.coefs[self.var], self.distance as i128) else {
-            return Err(ReachFault::Wide);
-        };
-        let Some(constant) = exact_add(row.constant, change) else {
+        let distance = self.distance as i128;
+        let Some(constant) = add_product(row.constant, row.coefs[self.var], distance) else {
             return Err(ReachFault::Wide);
         };
         let coefs = spread(alloc, self.outer, self.locals, &row.coefs)?;
