@@ -1,0 +1,4 @@
+pub mod Sites
+pub mod Limits
+pub mod Plan
+pub mod Law
