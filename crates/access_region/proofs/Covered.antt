@@ -10,17 +10,20 @@ use Rattle.affine_expr.specs.Linear.{◌>>=◌, variable_form}
 use Rattle.affine_expr.proofs.FormValues.{Gives, worth, variable_worth}
 use Rattle.affine_expr.proofs.Meaning.{Is, Are}
 use Rattle.affine_ast.specs.declared.image.Cells.{Cells}
+use Rattle.affine_ast.specs.declared.image.Image.{Image}
 use Rattle.affine_ast.specs.declared.module.Arg.{Arg}
+use Rattle.affine_ast.specs.declared.module.Module.{Module}
 use Rattle.affine_ast.specs.declared.name.Name.{Name}
 use Rattle.affine_ast.specs.declared.types.Access.{Access}
 use Rattle.affine_ast.specs.declared.types.Bound.{Bound}
 use Rattle.affine_ast.specs.Nest.{Plain, Nest, Nothing, Loop, Branch, Does, Value, Load, Store, RawLoad, RawStore, Constant, Binary, Cast, Alloc, Dealloc, Start, Wait, Return, nest}
+use Rattle.affine_ast.specs.Validity.{IsValid}
 use Rattle.direct_meaning.specs.Static.{Env, knows, lower_of, results_of}
 use Rattle.direct_meaning.specs.Actions.{actions, action_of, after_plain, behind}
-use Rattle.direct_meaning.specs.Memory.{FitsArgs, start_env}
+use Rattle.direct_meaning.specs.Memory.{FitsArgs, Fits, start_env}
 use Rattle.direct_meaning.specs.Pure.{AffineNest}
 use Rattle.valid_laws.proofs.Passing.{valid_affine}
-use Rattle.nest_domain.specs.Ways.{Header, Round, Given, Except, Behind, Past, Use, Affine, Other, if_named, use_of, uses, used, loop_count}
+use Rattle.nest_domain.specs.Ways.{Header, Round, Given, Except, Behind, Past, Use, Affine, Other, if_named, use_of, uses, used, loop_count, at_path}
 use Rattle.nest_domain.specs.Forms.{Formed, all_floor_rows}
 use Rattle.nest_domain.specs.Domains.{Going, Known, Accessed, map_forms, with_divisions, with_subscripts, along, symbol_count, with_arguments, nothing_known, place, access}
 use Rattle.nest_domain.specs.Visits.{Visits}
@@ -301,11 +304,17 @@ parted args way inner at =
             last (Err e) i = tt
             last (Ok g) i = ended k g (ap (λ w. w >>= along way (used inner at.operands)) h ∙ o) i
 
+-- turns of a way from a visit in which the subscripts are these
+pub record Swept (inner : List Header) (at : Access) (xs : List ℤ) (f : Env) : Type 0 where
+  pub turns : List ℤ
+  pub env : Env
+  pub visits : Visits inner f turns env
+  pub subscripts : results_of env at ≡ xs
+
 module _ (args : List Arg) (cells : List Cells) (zs : List ℤ) (fits : FitsArgs args cells zs) (way : List Header) (affine : AffineWay way) (ts : List ℤ) (f : Env) (visits : Visits way (start_env args zs) ts f) where
-  swept : (inner : List Header) (name value : Name) (ty : Rattle.affine_ast.specs.declared.types.MemrefType.MemrefType) (n : Nest) (at : Access) (a : Accessed) → access args (way ++ inner) at ≡ Ok a → AffineWay inner → Unconditional inner
-      → ((e : Env) (ws : List ℤ) (g : Env) → Visits inner e ws g → Contains (actions n e) (action_of (Store value name at ty) g))
-      → (ds : List Dimension) (sizes : List ℕ) → covers_from (symbol_count args + loop_count way) (loop_count way) ds a ≡ true → AreOver (symbol_count args + loop_count way) ds → (xs : List ℤ) → AllIn ds sizes (zs ++ ts) xs → IsStored name xs n f
-  swept inner name value ty n at a is aff uncond found ds sizes c over xs within =
+  swept : (inner : List Header) (at : Access) (a : Accessed) → access args (way ++ inner) at ≡ Ok a → AffineWay inner → Unconditional inner
+      → (ds : List Dimension) (sizes : List ℕ) → covers_from (symbol_count args + loop_count way) (loop_count way) ds a ≡ true → AreOver (symbol_count args + loop_count way) ds → (xs : List ℤ) → AllIn ds sizes (zs ++ ts) xs → Swept inner at xs f
+  swept inner at a is aff uncond ds sizes c over xs within =
       let p = answer (access args (way ++ inner) at) a (Parted args way inner at) is (parted args way inner at) in
       let s = answer (along inner at.operands p.k) p.g (Sweepable (zs ++ ts) inner p.k) p.inside (sweeps (zs ++ ts) inner at.operands p.k aff uncond) in
       let count = answer _ p.k (Counted (loop_count way)) p.outside (way_counted args (symbol_count args + loop_count (way ++ inner)) way (used inner at.operands)) in
@@ -318,7 +327,7 @@ module _ (args : List Arg) (cells : List Cells) (zs : List ℤ) (fits : FitsArgs
       long : length (zs ++ ts) ≡ symbol_count args + loop_count way
       long = omega (arith, length-append zs ts, fits_length args cells zs fits, visits_length way (start_env args zs) ts f visits)
 
-      by : (w : Option (List ℕ)) → (p : Parted args way inner at a) (s : Sweepable (zs ++ ts) inner p.k p.g) → variables_of (length s.gs) (symbol_count args + loop_count way) a.forms ≡ w → sweep_all (symbol_count args + loop_count way) s.gs ds w ≡ true → IsStored name xs n f
+      by : (w : Option (List ℕ)) → (p : Parted args way inner at a) (s : Sweepable (zs ++ ts) inner p.k p.g) → variables_of (length s.gs) (symbol_count args + loop_count way) a.forms ≡ w → sweep_all (symbol_count args + loop_count way) s.gs ds w ≡ true → Swept inner at xs f
       by None p s v c = absurd (let z : ⊥ = cc in z)
       by (Some js) p s v c =
           let os = zs ++ ts in
@@ -338,14 +347,12 @@ module _ (args : List Arg) (cells : List Cells) (zs : List ℤ) (fits : FitsArgs
           let P = (zs ++ (ts ++ us)) ++ acc.more in
           let named = variables_named n0 outer a.known.next P a.forms (results_of g at) js acc.forms v in
           record {
-            value = value;
-            at = at;
-            ty = ty;
+            turns = us;
             env = g;
+            visits = vis;
             subscripts = named_values outer n0 P js (results_of g at) named
                 ∙ all_wanted js xs (λ j. get_or P j (pos 0)) one.0 (sym (swept_long outer s.gs ds js two.0) ∙ in_long ds sizes os xs within) (λ j x w.
                 value_at j x acc.more js n0 ws us refl refl loops w (named_within outer n0 P js (results_of g at) named j (want_has j js xs x w)));
-            found = found f us g vis;
           }
         where
           plus_none : (m : ℕ) → m + 0 ≡ m
@@ -413,18 +420,49 @@ covering args way (Affine there true at ∷ []) outer ds h =
     by (Err e) i u c = absurd (let z : ⊥ = cc in z)
     by (Ok a) i u c = record { there = there; at = at; one = refl; free = u; accessed = a; is = i; sweep = c }
 
-pub covered_is_swept : CoveredIsSwept
+-- the one access of the memref in the loop is a store, and it comes to these subscripts
+pub record SweptBy (us : List Use) (way : List Header) (xs : List ℤ) (f : Env) : Type 0 where
+  pub inner : List Header
+  pub at : Access
+  pub one : us ≡ Affine (way ++ inner) true at ∷ []
+  pub swept : Swept inner at xs f
+
+pub swept_by_one : (m : Module) → IsValid m → (memory : Image) → Fits m memory → (steps : List (ℕ × Bool)) (way : List Header) (line : ℕ) (v : Name) (l u : Bound) (s : ℤ) (body rest : Nest)
+    → at_path (nest m.body) steps ≡ Some (record { way = way; here = Loop line v l u s body rest })
+    → (name : Name) (sizes : List ℕ) (ds : List Dimension) → covers m.args way (uses_at name way v l u s body) (symbol_count m.args + loop_count way) ds ≡ true
+    → AreOver (symbol_count m.args + loop_count way) ds → (turns : List ℤ) (f : Env) → Visits way (start_env m.args memory.symbols) turns f
+    → (xs : List ℤ) → AllIn ds sizes (memory.symbols ++ turns) xs → SweptBy (uses_at name way v l u s body) way xs f
 unfolding uses
-covered_is_swept m valid memory fits steps way line v l u s body rest at_is name sizes ds c over turns f visits xs within =
+swept_by_one m valid memory fits steps way line v l u s body rest at_is name sizes ds c over turns f visits xs within =
     let outer = symbol_count m.args + loop_count way in
     let us = uses_at name way v l u s body in
     let p = path_affine (nest m.body) steps (record { way = way; here = Loop line v l u s body rest }) (valid_affine m valid) at_is in
     let loop = Loop line v l u s body Nothing in
     let affine_loop : AffineNest loop = (p.1.0, p.1.1, p.1.2, p.1.3, tt) in
     let k = covering m.args way us outer ds c in
-    let stores = subst (λ w. Each (FoundIn name loop way) (w ++ [])) k.one (stores_found name loop way affine_loop) in
-    let behind_ = subst (λ w. Each (IsBehind way) (w ++ [])) k.one (uses_behind name loop way affine_loop) in
-    let found = stores.0 in
-    let same : found.inner ≡ behind_.0.inner = sym (drop_front way found.inner) ∙ ap (drop (length way)) (sym found.way ∙ behind_.0.way) ∙ drop_front way behind_.0.inner in
-    let free : Unconditional found.inner = unconditional_is found.inner (ap unconditional (sym (drop_front way found.inner) ∙ ap (drop (length way)) (sym found.way)) ∙ k.free) in
-    swept m.args memory.memrefs memory.symbols fits.fits way p.0 turns f visits found.inner name found.value found.ty loop k.at k.accessed (ap (λ w. access m.args w k.at) (sym found.way) ∙ k.is) (subst AffineWay (sym same) behind_.0.affine) free found.found ds sizes k.sweep over xs within
+    let behind_ = (subst (λ w. Each (IsBehind way) (w ++ [])) k.one (uses_behind name loop way affine_loop)).0 in
+    let free : Unconditional behind_.inner = unconditional_is behind_.inner (ap unconditional (sym (drop_front way behind_.inner) ∙ ap (drop (length way)) (sym behind_.way)) ∙ k.free) in
+    record {
+      inner = behind_.inner;
+      at = k.at;
+      one = k.one ∙ ap (λ w. Affine w true k.at ∷ []) behind_.way;
+      swept = swept m.args memory.memrefs memory.symbols fits.fits way p.0 turns f visits behind_.inner k.at k.accessed (ap (λ w. access m.args w k.at) (sym behind_.way) ∙ k.is) behind_.affine free ds sizes k.sweep over xs within;
+    }
+
+pub covered_is_swept : CoveredIsSwept
+unfolding uses
+covered_is_swept m valid memory fits steps way line v l u s body rest at_is name sizes ds c over turns f visits xs within =
+    let p = path_affine (nest m.body) steps (record { way = way; here = Loop line v l u s body rest }) (valid_affine m valid) at_is in
+    let loop = Loop line v l u s body Nothing in
+    let affine_loop : AffineNest loop = (p.1.0, p.1.1, p.1.2, p.1.3, tt) in
+    let k = swept_by_one m valid memory fits steps way line v l u s body rest at_is name sizes ds c over turns f visits xs within in
+    let found = (subst (λ w. Each (FoundIn name loop way) (w ++ [])) k.one (stores_found name loop way affine_loop)).0 in
+    let same : k.inner ≡ found.inner = sym (drop_front way k.inner) ∙ ap (drop (length way)) found.way ∙ drop_front way found.inner in
+    record {
+      value = found.value;
+      at = k.at;
+      ty = found.ty;
+      env = k.swept.env;
+      subscripts = k.swept.subscripts;
+      found = found.found f k.swept.turns k.swept.env (subst (λ w. Visits w f k.swept.turns k.swept.env) same k.swept.visits);
+    }

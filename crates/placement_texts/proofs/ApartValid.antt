@@ -42,13 +42,13 @@ every_one P h (x ∷ xs) = (h x, every_one P h xs)
 -- ---- what is known at the start
 
 -- the slow places of two memrefs
-abbrev Beside : ℕ → List ℕ → ℕ → List ℕ → Type 0
+abbrev pub Beside : ℕ → List ℕ → ℕ → List ℕ → Type 0
 Beside f sizes f' sizes' = (f + product sizes ≤ f') ⊎ (f' + product sizes' ≤ f)
 
 -- memref arguments lie below so many places, beside one another
-record Laid (s : Scope) (home : Name → Option Home) (elements : ℕ) : Type 0 where
-  below : (n : Name) (ty : MemrefType) → s n ≡ Some (MemrefArgument ty) → (o f : ℕ) × (home n ≡ Some (SlowMemref o f)) × (f + product ty.sizes ≤ elements)
-  apart : (n n' : Name) (ty ty' : MemrefType) (o f o' f' : ℕ) → s n ≡ Some (MemrefArgument ty) → s n' ≡ Some (MemrefArgument ty') → home n ≡ Some (SlowMemref o f) → home n' ≡ Some (SlowMemref o' f')
+pub record Laid (s : Scope) (home : Name → Option Home) (elements : ℕ) : Type 0 where
+  pub below : (n : Name) (ty : MemrefType) → s n ≡ Some (MemrefArgument ty) → (o f : ℕ) × (home n ≡ Some (SlowMemref o f)) × (f + product ty.sizes ≤ elements)
+  pub apart : (n n' : Name) (ty ty' : MemrefType) (o f o' f' : ℕ) → s n ≡ Some (MemrefArgument ty) → s n' ≡ Some (MemrefArgument ty') → home n ≡ Some (SlowMemref o f) → home n' ≡ Some (SlowMemref o' f')
       → same_name n n' ≡ false → Beside f ty.sizes f' ty'.sizes
 
 abbrev first_of : Option Home → ℕ
@@ -130,17 +130,17 @@ other_laid s home elements name b isnt l = record {
 
 -- ---- what is known on the way
 
-abbrev NoSlow : Option Home → Type 0
+abbrev pub NoSlow : Option Home → Type 0
 NoSlow (Some (SlowMemref o f)) = ⊥
 NoSlow h = Unit {0}
 
 -- a memref argument stands for what it stood for at the start; no other name stands for a slow memref
-abbrev IsBased : Option Binding → Option Home → Option Binding → Option Home → Type 0
+abbrev pub IsBased : Option Binding → Option Home → Option Binding → Option Home → Type 0
 IsBased (Some (MemrefArgument ty)) home b0 home0 = (home ≡ home0) × (b0 ≡ Some (MemrefArgument ty))
 IsBased b home b0 home0 = NoSlow home
 
 module _ (s0 : Scope) (home0 : Name → Option Home) where
-  abbrev Based : Scope → (Name → Option Home) → Type 0
+  abbrev pub Based : Scope → (Name → Option Home) → Type 0
   Based s home = (n : Name) → IsBased (s n) (home n) (s0 n) (home0 n)
 
   abbrev IsPlain : Binding → Type 0
@@ -164,7 +164,7 @@ module _ (s0 : Scope) (home0 : Name → Option Home) where
       by (Some x) e k = let z : true ≡ false = sym new ∙ ap (λ y. not (is_some y)) e in absurd (cc)
 
   -- a value comes into scope
-  based_name : (s : Scope) (home : Name → Option Home) (r : Name) (x : Binding) → IsPlain x → is_new s r ≡ true → Based s home → Based (put s r (Some x)) home
+  pub based_name : (s : Scope) (home : Name → Option Home) (r : Name) (x : Binding) → IsPlain x → is_new s r ≡ true → Based s home → Based (put s r (Some x)) home
   based_name s home r x p new b n = by (same_name r n) refl
     where
       by : (t : Bool) → same_name r n ≡ t → IsBased (put s r (Some x) n) (home n) (s0 n) (home0 n)
@@ -188,7 +188,7 @@ module _ (s0 : Scope) (home0 : Name → Option Home) where
   alloc_by true s e r ty b = based_alloc s e.home r ty (FastMemref e.fasts) tt b
   alloc_by false s e r ty b = based_alloc s e.home r ty (TagMemref e.tags) tt b
 
-  based_behind : (q : Plain) (a : Around) (e : Env) (rest : Nest) → Holds (counted a) q rest → Based a.scope e.home → Based (behind_plain q (counted a)).scope (after_plain q e).home
+  pub based_behind : (q : Plain) (a : Around) (e : Env) (rest : Nest) → Holds (counted a) q rest → Based a.scope e.home → Based (behind_plain q (counted a)).scope (after_plain q e).home
   unfolding after_plain
   based_behind (Value r pick at) a e rest h b = based_name a.scope e.home r _ tt h.new_name b
   based_behind (Load r m at ty) a e rest h b = based_name a.scope e.home r _ tt h.new_name b
@@ -207,7 +207,7 @@ module _ (s0 : Scope) (home0 : Name → Option Home) where
 
   -- ---- an access
   module _ (elements : ℕ) (laid : Laid s0 home0 elements) (m : Name) (of : MemrefType) (order first : ℕ) (m_is : s0 m ≡ Some (MemrefArgument of)) (m_home : home0 m ≡ Some (SlowMemref order first)) where
-    outside_memref : (f cell p : ℕ) (sizes : List ℕ) → cell < product sizes → Beside f sizes first of.sizes → f + cell ≡ p → is_of first of.sizes p ≡ false
+    pub outside_memref : (f cell p : ℕ) (sizes : List ℕ) → cell < product sizes → Beside f sizes first of.sizes → f + cell ≡ p → is_of first of.sizes p ≡ false
     outside_memref f cell p sizes less (inl k) e = let t : nat_le first p ≡ false = grind (arith, less, k, e) in ap (λ x. x && nat_lt p (first + product of.sizes)) t
     outside_memref f cell p sizes less (inr k) e = let t : nat_lt p (first + product of.sizes) ≡ false = grind (arith, less, k, e) in ap (λ x. nat_le first p && x) t ∙ and_false (nat_le first p)
       where
@@ -297,15 +297,15 @@ module _ (s0 : Scope) (home0 : Name → Option Home) where
 -- ---- the arguments
 
 -- no name but memref arguments stands for a slow memref
-abbrev Pure : Option Binding → Option Home → Type 0
+abbrev pub Pure : Option Binding → Option Home → Type 0
 Pure (Some (MemrefArgument ty)) h = Unit {0}
 Pure b h = NoSlow h
 
-record Begun (a : Around) (p : Placed) : Type 0 where
-  laid : Laid a.scope p.env.home p.elements
-  pure : (n : Name) → Pure (a.scope n) (p.env.home n)
+pub record Begun (a : Around) (p : Placed) : Type 0 where
+  pub laid : Laid a.scope p.env.home p.elements
+  pub pure : (n : Name) → Pure (a.scope n) (p.env.home n)
 
-pure_based : (b : Option Binding) (h : Option Home) → Pure b h → IsBased b h b h
+pub pure_based : (b : Option Binding) (h : Option Home) → Pure b h → IsBased b h b h
 pure_based (Some (MemrefArgument ty)) h k = (refl, refl)
 pure_based (Some (Variable r)) h k = k
 pure_based (Some (Symbol r)) h k = k
@@ -344,7 +344,7 @@ begun_one a p name (kind.Index range) new b = record {
         (subst (λ m. NoSlow (p.env.home m)) (same_name-eq name n e) (pure_none (a.scope name) (p.env.home name) new (b.pure name)))
     by n false e = subst (λ y. Pure y (p.env.home n)) (sym (put-other a.scope name x n e)) (b.pure n)
 
-begun_all : (args : List Arg) (a : Around) (p : Placed) → ArgumentsHold args a → Begun a p → Begun (behind_arguments args a) (fold place_arg p args)
+pub begun_all : (args : List Arg) (a : Around) (p : Placed) → ArgumentsHold args a → Begun a p → Begun (behind_arguments args a) (fold place_arg p args)
 begun_all [] a p h b = b
 begun_all (arg ∷ args) a p h b = begun_all args (behind_argument arg.name arg.kind a) (place_kind arg.kind arg.name p) h.1 (begun_one a p arg.name arg.kind h.0.new_name b)
 
@@ -354,7 +354,7 @@ still_there [] a n b h k = k
 still_there (arg ∷ args) a n b h k =
     still_there args (behind_argument arg.name arg.kind a) n b h.1 (put-other a.scope arg.name _ n (new_apart a arg.name n _ h.0.new_name k) ∙ k)
 
-argument_there : (args : List Arg) (a : Around) (n : Name) (ty : MemrefType) → ArgumentsHold args a → HasArgument args n (kind.Memref ty) → (behind_arguments args a).scope n ≡ Some (MemrefArgument ty)
+pub argument_there : (args : List Arg) (a : Around) (n : Name) (ty : MemrefType) → ArgumentsHold args a → HasArgument args n (kind.Memref ty) → (behind_arguments args a).scope n ≡ Some (MemrefArgument ty)
 argument_there [] a n ty h k = absurd k
 argument_there (arg ∷ args) a n ty h (inl k) =
     still_there args (behind_argument arg.name arg.kind a) n _ h.1 (put-same a.scope arg.name _ n (same_name-is arg.name n k.0) ∙ ap (λ x. Some (binding_of_kind x)) k.1)

@@ -245,7 +245,7 @@ module _ (own : Name → Bool) (p : Placement) (names : MadeNames own p.name) (o
     pub read_follows : Follows own new 1 (tags_made p p.how) read_env e read_env
     read_follows = passed_follows e front read_env 1 (tags_made p p.how) (read_passes own p names order first new spans sizes_are (extents_at e p.dims) (lies_at e p.dims a.lie) elements p.reads front) (front_follows e g a.follows)
 
-    stands : Stands own new 1 (tags_made p p.how) read_env p order first spans
+    pub stands : Stands own new 1 (tags_made p p.how) read_env p order first spans
     stands = record {
       fast_made = names.made 0;
       begins_made = begins_made 0 p.dims;

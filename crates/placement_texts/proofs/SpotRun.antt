@@ -140,7 +140,7 @@ module _ (own : Name → Bool) (new : Numbers) (m : Name) (first : ℕ) (sizes :
   goes a k made (Wait t at n ty) e g h s = tt
   goes a k made Return e g h s = tt
 
-  stays : (a k : ℕ) (made : Env) (q : Plain) (e g : Env) → OwnPlain own q → T q e → Shifts own new a k e.fasts (fasts_of_plain q) e.tags (tags_of_plain q) → Follows own new a k made e g → action_of q g ≡ action_up new (action_of q e)
+  pub stays : (a k : ℕ) (made : Env) (q : Plain) (e g : Env) → OwnPlain own q → T q e → Shifts own new a k e.fasts (fasts_of_plain q) e.tags (tags_of_plain q) → Follows own new a k made e g → action_of q g ≡ action_up new (action_of q e)
   stays a k made q e g h j m s = action_goes new Slow own a k made q e g h j.0 (goes a k made q e g h s) m s
 
   -- statements that stay have their actions, with new numbers

@@ -29,7 +29,7 @@ arguments_told (arg ∷ args) n n' a t h =
     let r = arguments_told args n n' (behind_argument arg.name arg.kind a) t j.1 in
     (r.0, ap (λ o. judged arg.line o (told_arguments args (told n') (behind_argument arg.name arg.kind a))) j.0 ∙ r.1)
 
-scope_is : (args : List Arg) (a : Around) → (behind_arguments args a).scope ≡ scope_behind_arguments args a.scope
+pub scope_is : (args : List Arg) (a : Around) → (behind_arguments args a).scope ≡ scope_behind_arguments args a.scope
 scope_is [] a = refl
 scope_is (arg ∷ args) a = scope_is args (behind_argument arg.name arg.kind a)
 
@@ -37,7 +37,7 @@ released_is : (args : List Arg) (a : Around) → (behind_arguments args a).relea
 released_is [] a = refl
 released_is (arg ∷ args) a = released_is args (behind_argument arg.name arg.kind a)
 
-arguments_fresh : (own : Name → Bool) (args : List Arg) (a : Around) → OwnArguments own args → Fresh own a → Fresh own (behind_arguments args a)
+pub arguments_fresh : (own : Name → Bool) (args : List Arg) (a : Around) → OwnArguments own args → Fresh own a → Fresh own (behind_arguments args a)
 arguments_fresh own [] a o f = f
 arguments_fresh own (arg ∷ args) a o f =
     arguments_fresh own args (behind_argument arg.name arg.kind a) o.1 (λ n h. (put-other a.scope arg.name _ n (apart_own own arg.name n o.0 h) ∙ (f n h).0, (f n h).1))
@@ -49,7 +49,7 @@ module _ (p : Placement) where
       still_argued args (behind_argument arg.name arg.kind a) h.1
       (record { scope = put-other a.scope arg.name _ p.memref (new_apart a arg.name p.memref _ h.0.new_name k.scope) ∙ k.scope; live = k.live })
 
-  arguments_argued : (args : List Arg) (a : Around) → ArgumentsHold args a → a.released p.memref ≡ false → HasArgument args p.memref (kind.Memref (slow_type p)) → Argued p (behind_arguments args a)
+  pub arguments_argued : (args : List Arg) (a : Around) → ArgumentsHold args a → a.released p.memref ≡ false → HasArgument args p.memref (kind.Memref (slow_type p)) → Argued p (behind_arguments args a)
   arguments_argued [] a h l k = absurd k
   arguments_argued (arg ∷ args) a h l (inl k) =
       still_argued args (behind_argument arg.name arg.kind a) h.1

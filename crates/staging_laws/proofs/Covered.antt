@@ -90,7 +90,7 @@ or_either : (a b : Bool) → (a || b) ≡ true → Either a b
 or_either true b h = First refl
 or_either false b h = Second h
 
-any_map : (f : Action → Bool) (go : Action → Action) → ((x : Action) → f x ≡ true → f (go x) ≡ true) → (xs : List Action) → list_any f xs ≡ true → list_any f (map go xs) ≡ true
+pub any_map : (f : Action → Bool) (go : Action → Action) → ((x : Action) → f x ≡ true → f (go x) ≡ true) → (xs : List Action) → list_any f xs ≡ true → list_any f (map go xs) ≡ true
 any_map f go one [] h = h
 any_map f go one (x ∷ xs) h = by (or_either (f x) (list_any f xs) h) (λ k. any_map f go one xs k)
   where
@@ -106,7 +106,7 @@ module _ (p : Placement) (order first : ℕ) (new : Numbers) (q : ℕ) where
   at_place g stays x (Fast n i c) h = cc
   at_place g stays x Outside h = cc
 
-  action_kept : (g : ℕ → Place) → g q ≡ Slow q → (x : Action) → stores_to q x ≡ true → stores_to q (action_with g new x) ≡ true
+  pub action_kept : (g : ℕ → Place) → g q ≡ Slow q → (x : Action) → stores_to q x ≡ true → stores_to q (action_with g new x) ≡ true
   action_kept g stays (Stores x y) h = at_place g stays x y h
   action_kept g stays Known h = cc
   action_kept g stays (Sets r z) h = cc
