@@ -1,0 +1,4 @@
+pub mod Found
+pub mod Stored
+pub mod Carries
+pub mod Theorem
