@@ -115,6 +115,8 @@ impl Flights {
             (MayTake engines engine tag (flights_of self.old.flying.items) × (flights_of self.new.flying.items ≡ with_flight (flights_of self.old.flying.items) tag (with_engine (Some engine))))
             ((MayTake engines engine tag (flights_of self.old.flying.items) → ⊥) × IsSame self.old self.new) }
         ensures kept { (slow : ℕ) → IsFlights slow self.old → IsFlights slow self.new }
+        ensures room { vec_capacity self.new.flying ≡ vec_capacity self.old.flying }
+        ensures waiting_room { vec_capacity self.new.waiting ≡ vec_capacity self.old.waiting }
     {
         if !take(self.flying.as_mut_slice(), engines, engine, tag) {
             return false;
@@ -130,6 +132,8 @@ impl Flights {
             (MayFinish engines engine (flights_of self.old.flying.items) × Changed self.old.flying.items (flights_of self.new.flying.items) engine (with_engine None))
             ((MayFinish engines engine (flights_of self.old.flying.items) → ⊥) × IsSame self.old self.new) }
         ensures kept { (slow : ℕ) → IsFlights slow self.old → IsFlights slow self.new }
+        ensures room { vec_capacity self.new.flying ≡ vec_capacity self.old.flying }
+        ensures waiting_room { vec_capacity self.new.waiting ≡ vec_capacity self.old.waiting }
     {
         finish(self.flying.as_mut_slice(), engines, engine)
     }
@@ -142,6 +146,8 @@ impl Flights {
             (MayMove engines engine (flights_of self.old.flying.items) × IsMoved slow.old self.old.flying.items engine slow.new (flights_of self.new.flying.items))
             ((MayMove engines engine (flights_of self.old.flying.items) → ⊥) × IsSame self.old self.new × (slow.new ≡ slow.old)) }
         ensures kept { IsFlights (length slow.new) self.new }
+        ensures room { vec_capacity self.new.flying ≡ vec_capacity self.old.flying }
+        ensures waiting_room { vec_capacity self.new.waiting ≡ vec_capacity self.old.waiting }
     {
         move_next(slow, self.flying.as_mut_slice(), engines, engine)
     }

@@ -10,5 +10,6 @@ mod engines;
 mod flights;
 mod flying;
 
+pub use engines::place_of;
 pub use flights::Flights;
 pub use flying::Flying;

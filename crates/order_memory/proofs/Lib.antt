@@ -1,0 +1,12 @@
+pub mod Changed
+pub mod Adding
+pub mod First
+pub mod Halves
+pub mod Home
+pub mod Loads
+pub mod Allocs
+pub mod Starts
+pub mod Waits
+pub mod Engines
+pub mod Settles
+pub mod Acts
