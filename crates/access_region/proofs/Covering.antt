@@ -1,5 +1,5 @@
 -- What the tests of a cover say of loops.
-use Rattle.std.proofs.Common.{◌≡◌, ℕ, zero, suc, ◌+◌, ◌-◌, ◌≤◌, Bool, true, false, cond, ◌&&◌, List, [], ◌∷◌, ◌++◌, length, slice_get, replicate, Option, Some, None, Result, Ok, Err, ℤ, pos, ◌+ℤ◌, ◌-ℤ◌, ◌*ℤ◌, ◌<ℤ◌, ◌≤ℤ◌, int_lt, refl, sym, ◌∙◌, ap, subst, arith, append_assoc, length-append}
+use Rattle.std.proofs.Common.{◌≡◌, ℕ, zero, suc, ◌+◌, ◌-◌, ◌≤◌, Bool, true, false, cond, ◌&&◌, List, [], ◌∷◌, ◌++◌, length, slice_get, Option, Some, None, Result, Ok, Err, ℤ, pos, ◌+ℤ◌, ◌-ℤ◌, ◌*ℤ◌, ◌<ℤ◌, ◌≤ℤ◌, int_lt, refl, sym, ◌∙◌, ap, subst, arith, append_assoc, length-append}
 use Rattle.std.specs.Prelude.{not, nat_eq, ◌||◌}
 use Rattle.std.specs.Int.{int_min, int_max}
 use Rattle.std.specs.Ordering.{int_eq}
@@ -20,7 +20,7 @@ use Rattle.affine_expr.proofs.Meaning.{padded_worth}
 use Rattle.nest_domain.proofs.Rowed.{IsMinus, minus_gives}
 use Rattle.nest_domain.proofs.Sweeps.{Sweeps, Passes, Part, Parts}
 use Rattle.nest_domain.specs.Boxes.{Dimension, place_at, begins_at, AllIn, AreOver}
-use Rattle.access_region.specs.Covers.{is_positive_gap, ends_at, same_form, place_form, sweeps_from, only_form, sweeps_by, sweeps, passes_from, passes_by, passes, swept_by, all_swept, others_pass, has_number}
+use Rattle.access_region.specs.Covers.{is_positive_gap, ends_at, same_form, place_form, only_form, sweeps_by, sweeps, passes_by, passes, swept_by, all_swept, others_pass, has_number}
 
 whole : (n : ℕ) (f : Form) (p : List ℤ) → worth (padded n f) p ≡ dot (padded n f).coefs p +ℤ f.constant
 unfolding padded

@@ -1,8 +1,8 @@
 -- The loops over expressions that have to keep to the limits.
-use Rattle.std.proofs.Common.{◌≡◌, ℕ, zero, suc, ◌+◌, ◌<◌, ◌≤◌, Bool, true, false, cond, ◌&&◌, List, [], ◌∷◌, length, drop, get_or, ℤ, pos, ◌+ℤ◌, ◌-ℤ◌, refl, sym, ◌∙◌, ap, subst, arith}
+use Rattle.std.proofs.Common.{◌≡◌, ℕ, zero, suc, ◌+◌, ◌<◌, ◌≤◌, true, ◌&&◌, List, [], ◌∷◌, length, drop, get_or, pos, ◌+ℤ◌, ◌-ℤ◌, refl, sym, ◌∙◌, ap, arith}
 use Rattle.affine_expr.specs.declared.map.Interval.{Interval}
 use Rattle.affine_expr.specs.Spread.{Range}
-use Rattle.affine_expr.specs.Bounded.{range_at, ranges}
+use Rattle.affine_expr.specs.Bounded.{ranges}
 use Rattle.nest_domain.specs.Boxes.{Dimension}
 use Rattle.access_region.specs.Places.{fits, copies_fit, subscripts_fit}
 

@@ -1,5 +1,5 @@
 -- The loops over the terms of a form and over the places of a region.
-use Rattle.std.proofs.Common.{◌≡◌, ℕ, zero, suc, ◌+◌, ◌<◌, ◌≤◌, Bool, true, false, cond, List, [], ◌∷◌, ◌++◌, length, drop, get_or, Option, Some, None, ℤ, pos, refl, sym, ◌∙◌, ap, subst, arith, append_assoc, append-nil}
+use Rattle.std.proofs.Common.{◌≡◌, ℕ, zero, suc, ◌+◌, ◌<◌, ◌≤◌, Bool, true, false, cond, List, [], ◌∷◌, ◌++◌, length, drop, get_or, Option, Some, None, ℤ, pos, refl, sym, ◌∙◌, ap, arith, append_assoc}
 use Rattle.std.specs.Prelude.{option_map}
 use Rattle.std.specs.Ordering.{int_eq}
 use Rattle.affine_expr.specs.declared.map.Interval.{Interval}
@@ -7,7 +7,7 @@ use Rattle.affine_expr.specs.Spread.{Range, only}
 use Rattle.affine_expr.specs.Bounded.{◌>>=◌, range_at, ranges}
 use Rattle.nest_domain.specs.Boxes.{Dimension}
 use Rattle.access_region.specs.Places.{place_range, with_range, place_ranges}
-use Rattle.access_region.specs.PlaceRanges.{kept, first_range, added_range, numbered_range, head, tail, terms_range, form_range, next_range, step_range, form_from}
+use Rattle.access_region.specs.PlaceRanges.{first_range, added_range, numbered_range, head, tail, terms_range, form_range, next_range, step_range, form_from}
 
 drop_at : (cs : List ℤ) (i : ℕ) (a : ℤ) → i < length cs → a ≡ get_or cs i (pos 0) → drop i cs ≡ a ∷ drop (i + 1) cs
 drop_at cs i a h e = step cs i h e ∙ (λ j. a ∷ drop (one j) cs)

@@ -1,9 +1,9 @@
 -- The steps of a region from its accesses.
-use Rattle.std.proofs.Common.{◌≡◌, ℕ, suc, Bool, true, false, List, [], ◌∷◌, length, Result, Ok, Err, ℤ, pos, refl, sym, ap, subst, ◌∙◌}
+use Rattle.std.proofs.Common.{◌≡◌, ℕ, suc, Bool, List, [], ◌∷◌, length, Result, Ok, Err, refl, sym, ap, ◌∙◌}
 use Rattle.nest_domain.specs.Boxes.{Dimension}
 use Rattle.access_region.specs.declared.fault.RegionFault.{RegionFault}
 use Rattle.access_region.specs.declared.fault.RegionFault.TheVariants as fault
-use Rattle.access_region.specs.Faults.{NoRegion, coefficient, ◌>>=◌, IsRefused}
+use Rattle.access_region.specs.Faults.{NoRegion, ◌>>=◌, IsRefused}
 use Rattle.access_region.specs.Candidates.{Reaching}
 use Rattle.access_region.specs.Regions.{Outside, dimension, dimensions}
 use Rattle.access_region.specs.Widening.{for_transfers}

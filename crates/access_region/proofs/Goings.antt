@@ -19,7 +19,7 @@ use Rattle.affine_ast.specs.Intervals.{range_or}
 use Rattle.affine_ast.specs.Nest.{Plain, Value, Load, Store, RawLoad, RawStore, Constant, Binary, Cast, Alloc, Dealloc, Start, Wait, Return}
 use Rattle.nest_domain.specs.Ways.{Header, Round, Given, Except, Behind, Past, has_name, used, loop_count}
 use Rattle.nest_domain.specs.Forms.{all_floor_rows}
-use Rattle.nest_domain.specs.Domains.{Going, Known, operand_forms, map_forms, bound_forms, all_from, upper_rows, set_rows, first_form, picked_rows, with_divisions, in_loop, in_condition, named, with_pick, with_value, formed_behind, behind_plain, along, count_of, symbol_count, with_kind, with_arguments, nothing_known}
+use Rattle.nest_domain.specs.Domains.{Going, Known, operand_forms, map_forms, bound_forms, all_from, upper_rows, set_rows, first_form, picked_rows, with_divisions, in_loop, in_condition, named, with_pick, with_value, formed_behind, behind_plain, along, with_kind, with_arguments, nothing_known}
 
 -- a step whose answer says nothing
 skip : {A B : Type 0} (w : Result A LinearFault) (f : A → Result B LinearFault) (Q : B → Type 0) → ((x : A) → Gives (f x) Q) → Gives (w >>= f) Q

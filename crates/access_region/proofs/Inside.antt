@@ -1,13 +1,13 @@
 -- Where a subscript lies within the memref it lies in the region, in each visit, and the region lies in the memref.
-use Rattle.std.proofs.Common.{◌≡◌, ℕ, zero, suc, ◌+◌, ◌-◌, ◌<◌, ◌≤◌, Bool, true, false, cond, ◌||◌, List, [], ◌∷◌, ◌++◌, map, take, drop, length, get_or, replicate, Option, Some, None, Result, Ok, Err, ℤ, pos, neg_ℤ, ◌+ℤ◌, ◌-ℤ◌, ◌*ℤ◌, ◌<ℤ◌, ◌≤ℤ◌, int_lt, refl, sym, ◌∙◌, ap, subst, arith, append_assoc, append-nil, length-append, inl, inr}
+use Rattle.std.proofs.Common.{◌≡◌, ℕ, zero, suc, ◌≤◌, Bool, true, false, cond, ◌||◌, List, [], ◌∷◌, ◌++◌, take, length, get_or, replicate, Option, Some, None, Result, Ok, Err, ℤ, pos, ◌+ℤ◌, ◌-ℤ◌, ◌*ℤ◌, ◌<ℤ◌, ◌≤ℤ◌, int_lt, refl, sym, ◌∙◌, ap, subst, arith, length-append, inl, inr}
 use Rattle.std.specs.Prelude.{int_le, ◌⊎◌}
 use Rattle.std.specs.Int.{int_min, int_max}
 use Rattle.std.proofs.lemmas.Int.{ints, clamps}
 use Rattle.std.proofs.lemmas.List.{length-replicate}
 use Rattle.constraint_set.specs.Lists.{Each}
-use Rattle.constraint_set.specs.Points.{LinearRow, LinearSystem, AreWide, PointOf, value_at}
-use Rattle.constraint_set.specs.Elimination.{Refusal, too_wide, too_many}
-use Rattle.constraint_set.specs.Reach.{Reach, never, between, reach_of, IsLeast, IsGreatest, HasNoPoint, TellsReach}
+use Rattle.constraint_set.specs.Points.{LinearSystem, AreWide, PointOf, value_at}
+use Rattle.constraint_set.specs.Elimination.{Refusal, too_wide}
+use Rattle.constraint_set.specs.Reach.{Reach, never, between, reach_of, TellsReach}
 use Rattle.constraint_set.proofs.Steps.{Each-append, Each-weaken}
 use Rattle.constraint_set.proofs.Reaching.{reach_tells}
 use Rattle.affine_expr.specs.declared.linear.LinearFault.{LinearFault}
@@ -15,18 +15,18 @@ use Rattle.affine_expr.specs.Forms.{Form, dot}
 use Rattle.affine_expr.specs.Linear.{number_form}
 use Rattle.affine_expr.proofs.FormValues as forms
 use Rattle.affine_expr.proofs.FormValues.{worth, dot-longer, dot-zeros, number_worth, number_long}
-use Rattle.affine_expr.specs.Linear.{padded, minus}
-use Rattle.nest_domain.specs.Domains.{Going, row_at}
-use Rattle.affine_expr.proofs.Meaning.{padded_long, Is, Are}
-use Rattle.nest_domain.proofs.Rowed.{minus_is, is_longer}
+use Rattle.affine_expr.specs.Linear.{minus}
+use Rattle.nest_domain.specs.Domains.{row_at}
+use Rattle.affine_expr.proofs.Meaning.{Is, Are}
+use Rattle.nest_domain.proofs.Rowed.{minus_is}
 use Rattle.nest_domain.proofs.Places.{row_worth, row_wide}
 use Rattle.nest_domain.specs.Boxes.{Dimension, place_at}
 use Rattle.access_region.specs.declared.candidate.End.{End}
 use Rattle.access_region.specs.declared.candidate.End.TheVariants.{Lower, Upper}
-use Rattle.access_region.specs.Faults.{NoRegion, unplaced, coefficient, ◌>>=◌, by_form, by_elimination}
+use Rattle.access_region.specs.Faults.{NoRegion, unplaced, ◌>>=◌, by_form, by_elimination}
 use Rattle.access_region.specs.Candidates.{Reaching, subscript, candidate, has_coefs, with_candidate, with_candidates, candidates}
 use Rattle.access_region.specs.declared.span.Span.{Span}
-use Rattle.access_region.specs.Spans.{reach_at, with_reach, combination, distance, spans_of, joined, all_joined, Tried, tried_by, tried_from, tried, lesser, best}
+use Rattle.access_region.specs.Spans.{reach_at, with_reach, combination, distance, spans_of, joined, all_joined, Tried, tried_from, tried, lesser, best}
 use Rattle.access_region.specs.Regions.{Outside, at_most_whole, clamped_by, placed, dimension, dimensions}
 
 -- ---- answers

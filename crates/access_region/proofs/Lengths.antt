@@ -1,5 +1,5 @@
 -- A region has a coefficient for each outer variable.
-use Rattle.std.proofs.Common.{◌≡◌, ℕ, zero, suc, ◌+◌, ◌≤◌, Bool, true, false, cond, List, [], ◌∷◌, ◌++◌, map, take, drop, length, reverse, replicate, Option, Some, None, Result, Ok, Err, ℤ, pos, ◌+ℤ◌, ◌-ℤ◌, int_lt, refl, sym, ◌∙◌, ap, subst, arith, length-append}
+use Rattle.std.proofs.Common.{◌≡◌, ℕ, zero, suc, ◌+◌, ◌≤◌, Bool, true, false, cond, List, [], ◌∷◌, ◌++◌, take, drop, length, replicate, Option, Some, None, Ok, Err, ℤ, pos, ◌+ℤ◌, ◌-ℤ◌, int_lt, refl, sym, ◌∙◌, ap, subst, arith, length-append}
 use Rattle.std.specs.Prelude.{int_le}
 use Rattle.std.proofs.lemmas.List.{length-replicate}
 use Rattle.constraint_set.specs.Lists.{Each}
@@ -9,20 +9,20 @@ use Rattle.constraint_set.proofs.Steps.{Each-append}
 use Rattle.affine_expr.proofs.FormValues as forms
 use Rattle.affine_ast.specs.declared.module.Arg.{Arg}
 use Rattle.nest_domain.specs.Ways.{Header, Use, loop_count}
-use Rattle.nest_domain.specs.Domains.{Going, Known, symbol_count, place}
+use Rattle.nest_domain.specs.Domains.{symbol_count, place}
 use Rattle.nest_domain.proofs.Counts.{place_outer}
 use Rattle.nest_domain.specs.Boxes.{Dimension, AreOver}
 use Rattle.access_region.specs.declared.candidate.End.{End}
 use Rattle.access_region.specs.declared.candidate.End.TheVariants.{Lower, Upper}
-use Rattle.access_region.specs.Faults.{NoRegion, unplaced, ◌>>=◌, by_form, by_elimination}
+use Rattle.access_region.specs.Faults.{unplaced, ◌>>=◌, by_form, by_elimination}
 use Rattle.access_region.specs.Candidates.{Reaching, subscript, replaced, candidate, has_coefs, with_candidate, with_candidates, candidates}
 use Rattle.access_region.specs.declared.span.Span.{Span}
-use Rattle.access_region.specs.Spans.{reach_at, combination, spans_of, Tried, tried_from, tried, lesser, best, joined, all_joined, tried_by}
+use Rattle.access_region.specs.Spans.{reach_at, combination, spans_of, Tried, tried_from, tried, lesser, best, all_joined, tried_by}
 use Rattle.access_region.specs.Regions.{reaching, Outside, outside_at, at_most_whole, clamped_by, placed, dimension, dimensions}
 use Rattle.access_region.specs.Widening.{Side, sides, shape, is_mixed, all_whole, made_whole, last_whole, widened_by, dims_of, widened, for_transfers}
 use Rattle.access_region.specs.Laws.{RegionsAreOver}
 use Rattle.access_region.proofs.Inside.{Gives, on, then_by}
-use Rattle.access_region.proofs.Regioned.{formed_is, region_at, IsFound, found_of}
+use Rattle.access_region.proofs.Regioned.{formed_is, region_at, found_of}
 
 take_long : (n : ℕ) (xs : List ℤ) → n ≤ length xs → length (take n xs) ≡ n
 take_long zero xs h = refl

@@ -12,3 +12,4 @@ pub mod Lengths
 pub mod Goings
 pub mod Covering
 pub mod Covered
+mod Multiples

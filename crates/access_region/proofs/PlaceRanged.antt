@@ -1,15 +1,16 @@
 -- The interval of the expression of a place is that of its terms, one after the other.
-use Rattle.std.proofs.Common.{◌≡◌, ℕ, zero, suc, ◌+◌, ◌<◌, ◌≤◌, Bool, true, false, cond, ◌||◌, List, [], ◌∷◌, ◌++◌, length, get_or, Option, Some, None, ℤ, pos, neg_ℤ, ◌+ℤ◌, ◌-ℤ◌, ◌*ℤ◌, int_lt, refl, sym, ◌∙◌, ap, subst, arith, append_assoc, length-append}
+use Rattle.std.proofs.Common.{◌≡◌, ℕ, suc, ◌+◌, Bool, true, false, cond, ◌||◌, ◌&&◌, List, [], ◌∷◌, get_or, Option, Some, None, ℤ, pos, neg_ℤ, ◌-ℤ◌, int_lt, refl, sym, ◌∙◌, ap, subst, arith}
 use Rattle.std.specs.Ordering.{int_eq}
 use Rattle.affine_expr.specs.declared.expr.Expr.{Expr, Dim, Const, Neg, Add, Sub, Mul, fold-Expr, fold-roll-Expr}
 use Rattle.affine_expr.specs.declared.expr.Expr.TheVariants.{rolls-Dim, rolls-Const, rolls-Neg, rolls-Add, rolls-Sub, rolls-Mul}
 use Rattle.affine_expr.specs.declared.expr.Expr.TheOpen.{Expr-F}
 use Rattle.std.specs.Int.{int_min, int_max}
+use Rattle.constraint_set.specs.Tidy.{all_zero}
 use Rattle.affine_expr.specs.Spread.{Range, only, scaled, Spread, spread_step}
 use Rattle.affine_expr.specs.Bounded.{◌>>=◌, limited, bounded, bounded_step}
 use Rattle.affine_expr.specs.Pure.{is_outside}
 use Rattle.nest_domain.specs.Boxes.{Dimension}
-use Rattle.access_region.specs.Places.{first_term, size_term, with_term, with_number, terms_behind, place_expr, chosen, range_of_spread, clamped_range, place_range}
+use Rattle.access_region.specs.Places.{first_term, size_term, with_term, with_number, terms_behind, place_expr, chosen, range_of_spread, clamped_range, number_range, place_range}
 use Rattle.access_region.specs.PlaceRanges.{kept, plus, less, opposite, times, first_range, size_range, added_range, numbered_range, head, tail, terms_range, form_range}
 
 limited_range : (s : Spread) → range_of_spread (limited s) ≡ kept s.range
@@ -217,15 +218,24 @@ form_range_is cs k rs = place_is (chosen cs rs) cs k rs same
     same : Follows (chosen cs rs) 0 (chosen cs rs)
     same m = ap (λ k. get_or (chosen cs rs) k (only (pos 0))) (omega arith)
 
-place_range_is : (rs : List Range) (size : ℕ) (d : Dimension) → place_range rs size d ≡ clamped_range d.clamped (pos size -ℤ d.extent) (form_range d.coefs d.offset rs)
-place_range_is rs size d = ap (clamped_range d.clamped (pos size -ℤ d.extent)) (form_range_is d.coefs d.offset rs)
+-- ---- a dimension's place
+-- neither clamped nor constant
+varying : (rs : List Range) (size : ℕ) (d : Dimension) → (d.clamped && all_zero d.coefs) ≡ false → place_range rs size d ≡ clamped_range d.clamped (pos size -ℤ d.extent) (form_range d.coefs d.offset rs)
+varying rs size d v =
+    ap (λ x. cond x (Some (number_range (pos size -ℤ d.extent) d.offset)) (clamped_range d.clamped (pos size -ℤ d.extent) (range_of_spread (bounded (chosen d.coefs rs) [] (place_expr d.coefs d.offset))))) v
+    ∙ ap (clamped_range d.clamped (pos size -ℤ d.extent)) (form_range_is d.coefs d.offset rs)
 
-pub place_none : (rs : List Range) (size : ℕ) (d : Dimension) → None ≡ form_range d.coefs d.offset rs → None ≡ place_range rs size d
-place_none rs size d h = sym (place_range_is rs size d ∙ ap (clamped_range d.clamped (pos size -ℤ d.extent)) (sym h))
+pub place_number : (rs : List Range) (size : ℕ) (d : Dimension) (r : Range) → (d.clamped && all_zero d.coefs) ≡ true → r ≡ number_range (pos size -ℤ d.extent) d.offset → Some r ≡ place_range rs size d
+place_number rs size d r v e =
+    ap Some e
+    ∙ sym (ap (λ x. cond x (Some (number_range (pos size -ℤ d.extent) d.offset)) (clamped_range d.clamped (pos size -ℤ d.extent) (range_of_spread (bounded (chosen d.coefs rs) [] (place_expr d.coefs d.offset))))) v)
 
-pub place_plain : (rs : List Range) (size : ℕ) (d : Dimension) (r : Range) → Some r ≡ form_range d.coefs d.offset rs → d.clamped ≡ false → Some r ≡ place_range rs size d
-place_plain rs size d r h c = sym (place_range_is rs size d ∙ (λ i. clamped_range (c i) (pos size -ℤ d.extent) (sym h i)))
+pub place_none : (rs : List Range) (size : ℕ) (d : Dimension) → (d.clamped && all_zero d.coefs) ≡ false → None ≡ form_range d.coefs d.offset rs → None ≡ place_range rs size d
+place_none rs size d v h = sym (varying rs size d v ∙ ap (clamped_range d.clamped (pos size -ℤ d.extent)) (sym h))
 
-pub place_clamped : (rs : List Range) (size : ℕ) (d : Dimension) (r w : Range) (most : ℤ) → Some r ≡ form_range d.coefs d.offset rs → d.clamped ≡ true → most ≡ pos size -ℤ d.extent
+pub place_plain : (rs : List Range) (size : ℕ) (d : Dimension) (r : Range) → (d.clamped && all_zero d.coefs) ≡ false → Some r ≡ form_range d.coefs d.offset rs → d.clamped ≡ false → Some r ≡ place_range rs size d
+place_plain rs size d r v h c = sym (varying rs size d v ∙ (λ i. clamped_range (c i) (pos size -ℤ d.extent) (sym h i)))
+
+pub place_clamped : (rs : List Range) (size : ℕ) (d : Dimension) (r w : Range) (most : ℤ) → (d.clamped && all_zero d.coefs) ≡ false → Some r ≡ form_range d.coefs d.offset rs → d.clamped ≡ true → most ≡ pos size -ℤ d.extent
     → w ≡ record { least = int_max (pos 0) (int_min r.least most); greatest = int_max (pos 0) (int_min r.greatest most) } → Some w ≡ place_range rs size d
-place_clamped rs size d r w most h c m e = ap Some e ∙ sym (place_range_is rs size d ∙ (λ i. clamped_range (c i) (sym m i) (sym h i)))
+place_clamped rs size d r w most v h c m e = ap Some e ∙ sym (varying rs size d v ∙ (λ i. clamped_range (c i) (sym m i) (sym h i)))

@@ -1,5 +1,5 @@
 -- The reach of a form with exactly as many coefficients as there are variables.
-use Rattle.std.proofs.Common.{◌≡◌, ℕ, zero, suc, ◌+◌, ◌-◌, ◌≤◌, List, [], ◌∷◌, ◌++◌, take, length, replicate, Result, Ok, Err, ℤ, pos, refl, sym, ap, subst, ◌∙◌, arith}
+use Rattle.std.proofs.Common.{◌≡◌, ℕ, zero, suc, ◌+◌, ◌-◌, ◌≤◌, List, [], ◌∷◌, ◌++◌, take, length, replicate, Result, Ok, ℤ, pos, refl, sym, ap, subst, ◌∙◌, arith}
 use Rattle.constraint_set.specs.Points.{LinearRow, LinearSystem}
 use Rattle.constraint_set.specs.Elimination.{Refusal}
 use Rattle.constraint_set.specs.Reach.{Reach, reach_of}
@@ -10,7 +10,7 @@ use Rattle.affine_expr.specs.Forms.{Form}
 use Rattle.affine_expr.specs.Linear.{padded}
 use Rattle.nest_domain.specs.Domains.{row_at}
 use Rattle.access_region.specs.Converted.{of_elimination}
-use Rattle.access_region.specs.Faults.{NoRegion, coefficient, many_rows, IsRefused, by_elimination}
+use Rattle.access_region.specs.Faults.{IsRefused, by_elimination}
 use Rattle.access_region.specs.Candidates.{filled}
 use Rattle.access_region.specs.Spans.{reach_at}
 

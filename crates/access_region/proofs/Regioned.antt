@@ -1,28 +1,23 @@
 -- The laws of regions.
-use Rattle.std.proofs.Common.{◌≡◌, ℕ, zero, suc, ◌+◌, Bool, true, false, cond, List, [], ◌∷◌, ◌++◌, length, get_or, Option, Some, None, Result, Ok, Err, ℤ, pos, refl, sym, ◌∙◌, ap, subst, arith, append_assoc, append-nil, length-append}
+use Rattle.std.proofs.Common.{◌≡◌, ℕ, suc, ◌+◌, Bool, true, false, cond, List, [], ◌∷◌, ◌++◌, length, get_or, Result, Ok, Err, ℤ, pos, refl, sym, ◌∙◌, ap, subst, arith, append_assoc, append-nil, length-append}
 use Rattle.constraint_set.specs.Lists.{Each}
 use Rattle.constraint_set.specs.Points.{PointOf}
-use Rattle.constraint_set.proofs.Steps.{Each-append, Each-first, Each-second, Each-weaken}
+use Rattle.constraint_set.proofs.Steps.{Each-append, Each-first, Each-second}
 use Rattle.affine_expr.specs.declared.linear.LinearFault.{LinearFault}
-use Rattle.affine_expr.specs.Forms.{dot}
 use Rattle.affine_expr.proofs.FormValues as forms
 use Rattle.affine_ast.specs.declared.image.Cells.{Cells}
-use Rattle.affine_ast.specs.declared.image.Image.{Image}
 use Rattle.affine_ast.specs.declared.module.Arg.{Arg}
-use Rattle.affine_ast.specs.declared.module.Module.{Module}
 use Rattle.affine_ast.specs.declared.name.Name.{Name}
 use Rattle.affine_ast.specs.declared.types.Access.{Access}
 use Rattle.affine_ast.specs.declared.types.Bound.{Bound}
-use Rattle.affine_ast.specs.declared.types.MemrefType.{MemrefType}
 use Rattle.affine_ast.specs.Names.{same_name}
-use Rattle.affine_ast.specs.Nest.{Plain, Nest, Nothing, Loop, Branch, Does, Value, Load, Store, RawLoad, RawStore, Constant, Binary, Cast, Alloc, Dealloc, Start, Wait, Return, nest}
-use Rattle.affine_ast.specs.Validity.{IsValid}
+use Rattle.affine_ast.specs.Nest.{Nest, Nothing, Loop, Branch, Does, Value, Load, Store, RawLoad, RawStore, Constant, Binary, Cast, Alloc, Dealloc, Start, Wait, Return, nest}
 use Rattle.direct_meaning.specs.Static.{Env, knows, results_of}
 use Rattle.direct_meaning.specs.Actions.{after_plain, behind}
-use Rattle.direct_meaning.specs.Memory.{FitsArgs, Fits, start_env}
+use Rattle.direct_meaning.specs.Memory.{FitsArgs, start_env}
 use Rattle.direct_meaning.specs.Pure.{AffineNest}
 use Rattle.valid_laws.proofs.Passing.{valid_affine}
-use Rattle.nest_domain.specs.Ways.{Header, Round, Given, Except, Behind, Past, Use, Affine, Other, Spot, at_path, if_named, use_of, uses, loop_count}
+use Rattle.nest_domain.specs.Ways.{Header, Round, Given, Except, Behind, Past, Use, Affine, Other, if_named, use_of, uses, loop_count}
 use Rattle.nest_domain.specs.Domains.{Known, Accessed, symbol_count, place, access, system_of}
 use Rattle.nest_domain.specs.Visits.{Visits, Along}
 use Rattle.affine_expr.proofs.Meaning.{Are}
@@ -30,15 +25,15 @@ use Rattle.nest_domain.proofs.Walks.{AffineWay, Arrived}
 use Rattle.nest_domain.proofs.Places.{IsSeen, seen_of, seen_point, place_arrives, AccessArrived, access_arrives, fits_length, visits_length}
 use Rattle.nest_domain.proofs.Alongs.{visits_append, affine_append, path_affine, Comes, along_comes, along_weaken}
 use Rattle.nest_domain.proofs.Counts.{place_outer}
-use Rattle.nest_domain.specs.Boxes.{Dimension, place_at, begins_at, AllWithin}
+use Rattle.nest_domain.specs.Boxes.{Dimension, AllWithin}
 use Rattle.access_region.specs.Faults.{NoRegion, unplaced, ◌>>=◌, by_form}
 use Rattle.access_region.specs.Candidates.{Reaching}
-use Rattle.access_region.specs.Regions.{has_other, reaching_of, all_reaching, reaching, Outside, outside_of, outside_at, dimensions, uses_at}
+use Rattle.access_region.specs.Regions.{has_other, reaching_of, all_reaching, reaching, Outside, outside_at, dimensions, uses_at}
 use Rattle.access_region.specs.Laws.{AllInside, RegionsLieWithin, AccessInside, RegionsHold}
 use Rattle.access_region.specs.Widening.{for_transfers}
-use Rattle.access_region.specs.Places.{region_fits, kept_where, region_from, region_of}
+use Rattle.access_region.specs.Places.{region_fits, kept_where, region_of}
 use Rattle.access_region.proofs.Widened.{within_kept, inside_kept}
-use Rattle.access_region.proofs.Inside.{Gives, on, then_by, formed_by, AtPoint, Seen, IsInside, DimHolds, AllHold, dimensions_hold}
+use Rattle.access_region.proofs.Inside.{Gives, on, then_by, AtPoint, Seen, IsInside, AllHold, dimensions_hold}
 
 -- ---- the accesses that a region is of
 pub record IsReaching (args : List Arg) (way : List Header) (at : Access) (a : Reaching) : Type 0 where

@@ -1,6 +1,5 @@
 -- Which dimension is made whole.
-use Rattle.std.proofs.Common.{◌≡◌, ℕ, zero, suc, ◌+◌, ◌-◌, ◌<◌, ◌≤◌, Bool, true, false, cond, List, [], ◌∷◌, length, drop, set, get_or, ℤ, pos, refl, sym, ◌∙◌, ap, subst, arith, add-one, inl, inr}
-use Rattle.std.specs.Prelude.{◌⊎◌}
+use Rattle.std.proofs.Common.{◌≡◌, ℕ, zero, suc, ◌+◌, ◌-◌, ◌<◌, ◌≤◌, Bool, true, false, cond, List, [], ◌∷◌, length, drop, set, get_or, pos, refl, sym, ◌∙◌, ap, arith}
 use Rattle.nest_domain.specs.Boxes.{Dimension}
 use Rattle.access_region.specs.declared.widening.Shape.{Shape}
 use Rattle.access_region.specs.Widening.{Side, sides, is_whole, shape_over, shape, is_mixed, all_whole, whole_dim, made_whole, last_whole, widened_by, dims_of, widened}

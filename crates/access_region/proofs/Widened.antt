@@ -1,9 +1,9 @@
 -- A widened region lies within the memref too, and holds what the region holds.
-use Rattle.std.proofs.Common.{◌≡◌, ℕ, zero, suc, ◌+◌, Bool, true, false, cond, List, [], ◌∷◌, length, get_or, replicate, ℤ, pos, ◌+ℤ◌, ◌-ℤ◌, ◌≤ℤ◌, ◌<ℤ◌, refl, sym, ◌∙◌, ap, subst, arith}
+use Rattle.std.proofs.Common.{◌≡◌, ℕ, zero, suc, Bool, true, false, cond, List, [], ◌∷◌, length, get_or, ℤ, pos, ◌+ℤ◌, ◌≤ℤ◌, ◌<ℤ◌, refl, sym, ap, subst, arith}
 use Rattle.std.proofs.lemmas.Int.{ints}
 use Rattle.affine_expr.specs.Forms.{dot}
 use Rattle.affine_expr.proofs.FormValues.{dot-zeros}
-use Rattle.nest_domain.specs.Boxes.{Dimension, place_at, begins_at, AllWithin}
+use Rattle.nest_domain.specs.Boxes.{Dimension, place_at, AllWithin}
 use Rattle.access_region.specs.Widening.{Side, sides, shape, is_mixed, all_whole, made_whole, last_whole, widened_by, dims_of, widened, for_transfers}
 use Rattle.access_region.specs.Laws.{AllInside}
 

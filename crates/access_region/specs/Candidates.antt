@@ -1,9 +1,10 @@
 -- The combinations of outer variables from which a place may be taken.
-use Rattle.std.specs.Prelude.{ℕ, zero, suc, ◌+◌, ℤ, pos, Bool, true, false, ◌||◌, if◌then◌else◌, List, [], ◌∷◌, ◌++◌, length, take, drop, replicate, slice_index_or, Result, Ok, Err}
+use Rattle.std.specs.Prelude.{ℕ, zero, suc, ◌+◌, ℤ, pos, ◌+ℤ◌, ◌*ℤ◌, Bool, false, ◌||◌, if◌then◌else◌, List, [], ◌∷◌, ◌++◌, length, take, drop, replicate, slice_index_or, Result, Ok}
 use Rattle.constraint_set.specs.Points.{LinearSystem}
 use Rattle.constraint_set.specs.Tidy.{same_coefs}
 use Rattle.constraint_set.specs.Elimination as elimination
-use Rattle.constraint_set.specs.Elimination.{Refusal, mixed_by}
+use Rattle.num_row.specs.Ints.{narrowed}
+use Rattle.constraint_set.specs.Elimination.{Refusal, or_wide}
 use Rattle.affine_expr.specs.Spread.{Range}
 use Rattle.affine_expr.specs.Forms.{Form}
 use Rattle.affine_expr.specs.Linear.{number_form}
@@ -38,9 +39,15 @@ first_at Upper g = first_coefs g.uppers
 abbrev pub filled : ℕ → List ℤ → List ℤ
 filled n cs = take n (cs ++ replicate n (pos 0))
 
+-- numbers and a multiple of others, number by number: it is the sums that have to keep to 128 bits, and no product by itself
+abbrev pub plus_multiple : List ℤ → ℤ → List ℤ → Result (List ℤ) Refusal
+plus_multiple [] k bs = Ok []
+plus_multiple (c ∷ cs) k [] = Ok []
+plus_multiple (c ∷ cs) k (b ∷ bs) = elimination.◌>>=◌ (or_wide (narrowed (c +ℤ k *ℤ b))) (λ first. elimination.◌>>=◌ (plus_multiple cs k bs) (λ rest. Ok (first ∷ rest)))
+
 -- in coefficients, variable n leaves for a form over the variables before it
 abbrev pub replaced_one : ℕ → List ℤ → List ℤ → Result (List ℤ) Refusal
-replaced_one n b cs = mixed_by (pos 1) (filled n cs) (slice_index_or cs n (pos 0)) (filled n b)
+replaced_one n b cs = plus_multiple (filled n cs) (slice_index_or cs n (pos 0)) (filled n b)
 
 abbrev pub nowhere : Going
 nowhere = record { lowers = []; uppers = []; step = pos 1 }

@@ -1,14 +1,14 @@
 -- Loops that make one store sweep the whole region.
-use Rattle.std.specs.Prelude.{ℕ, zero, suc, ◌+◌, ◌-◌, ℤ, pos, Bool, true, false, not, ◌&&◌, ◌||◌, if◌then◌else◌, nat_eq, nat_le, nat_lt, int_lt, List, [], ◌∷◌, ◌++◌, length, drop, slice_get, slice_index_or, Option, Some, None, Result, Ok, Err}
+use Rattle.std.specs.Prelude.{ℕ, zero, suc, ◌-◌, ℤ, pos, Bool, true, false, not, ◌&&◌, ◌||◌, if◌then◌else◌, nat_eq, int_lt, List, [], ◌∷◌, length, drop, slice_get, Option, Some, None, Result, Ok, Err}
 use Rattle.std.specs.Ordering.{int_eq}
 use Rattle.constraint_set.specs.Tidy.{all_zero, same_coefs}
 use Rattle.affine_expr.specs.declared.linear.LinearFault.{LinearFault}
 use Rattle.affine_expr.specs.Forms.{Form}
 use Rattle.affine_expr.specs.Linear.{variable_form}
 use Rattle.affine_ast.specs.declared.module.Arg.{Arg}
-use Rattle.nest_domain.specs.Ways.{Header, Round, Given, Except, Behind, Past, Use, Affine, Other, loop_count}
+use Rattle.nest_domain.specs.Ways.{Header, Round, Given, Except, Behind, Past, Use, Affine, loop_count}
 use Rattle.affine_expr.specs.Linear.{padded, minus}
-use Rattle.nest_domain.specs.Domains.{Going, Known, Accessed, access, shifted}
+use Rattle.nest_domain.specs.Domains.{Going, Accessed, access, shifted}
 use Rattle.nest_domain.specs.Boxes.{Dimension}
 
 -- a way within no condition

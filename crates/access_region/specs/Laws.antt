@@ -1,5 +1,5 @@
 -- What regions say of the accesses in the turns of a run.
-use Rattle.std.specs.Prelude.{◌≡◌, ℕ, suc, ◌+◌, ◌<◌, ℤ, pos, ◌+ℤ◌, ◌≤ℤ◌, ◌<ℤ◌, true, false, Bool, List, [], ◌∷◌, ◌++◌, length, slice_index_or, Contains, Some, Ok}
+use Rattle.std.specs.Prelude.{◌≡◌, ℕ, suc, ◌+◌, ℤ, pos, ◌+ℤ◌, ◌≤ℤ◌, ◌<ℤ◌, true, Bool, List, [], ◌∷◌, ◌++◌, length, slice_index_or, Contains, Some, Ok}
 use Rattle.constraint_set.specs.Points.{PointOf}
 use Rattle.affine_ast.specs.declared.image.Image.{Image}
 use Rattle.affine_ast.specs.declared.module.Arg.{Arg}
@@ -9,12 +9,12 @@ use Rattle.affine_ast.specs.declared.types.Access.{Access}
 use Rattle.affine_ast.specs.declared.types.Bound.{Bound}
 use Rattle.affine_ast.specs.declared.types.MemrefType.{MemrefType}
 use Rattle.affine_ast.specs.Names.{same_name}
-use Rattle.affine_ast.specs.Nest.{Plain, Nest, Nothing, Loop, Branch, Does, Load, Store, nest}
+use Rattle.affine_ast.specs.Nest.{Nest, Nothing, Loop, Does, Load, Store, nest}
 use Rattle.affine_ast.specs.Validity.{IsValid}
 use Rattle.direct_meaning.specs.Static.{Env, results_of}
 use Rattle.direct_meaning.specs.Actions.{action_of, actions}
 use Rattle.direct_meaning.specs.Memory.{Fits, start_env}
-use Rattle.nest_domain.specs.Ways.{Header, Use, Spot, at_path}
+use Rattle.nest_domain.specs.Ways.{Header, Use, at_path}
 use Rattle.nest_domain.specs.Domains.{Known, symbol_count, place, system_of}
 use Rattle.nest_domain.specs.Ways.{loop_count}
 use Rattle.nest_domain.specs.Visits.{Visits, Along}

@@ -1,10 +1,11 @@
 -- The place of a dimension as a template writes it, and whether a region's templates keep to the rule on intervals: that each of
 -- their expressions has an interval within -2^62 to 2^62.
-use Rattle.std.specs.Prelude.{ℕ, zero, suc, ◌+◌, ℤ, pos, neg_ℤ, ◌+ℤ◌, ◌-ℤ◌, Bool, true, false, ◌&&◌, if◌then◌else◌, int_lt, List, [], ◌∷◌, ◌++◌, Option, Some, None, Result, Ok, Err}
+use Rattle.std.specs.Prelude.{ℕ, suc, ℤ, pos, neg_ℤ, ◌+ℤ◌, ◌-ℤ◌, Bool, true, false, ◌&&◌, if◌then◌else◌, int_lt, List, [], ◌∷◌, Option, Some, None, Result, Ok, Err}
 use Rattle.std.specs.Int.{int_min, int_max}
 use Rattle.std.specs.Ordering.{int_eq}
 use Rattle.affine_expr.specs.declared.expr.Expr.{Expr, Dim, Const, Neg, Add, Sub, Mul}
-use Rattle.affine_expr.specs.Spread.{Range, Spread}
+use Rattle.constraint_set.specs.Tidy.{all_zero}
+use Rattle.affine_expr.specs.Spread.{Range, Spread, only}
 use Rattle.affine_expr.specs.Bounded.{bounded}
 use Rattle.affine_expr.specs.Pure.{is_outside}
 use Rattle.affine_ast.specs.declared.module.Arg.{Arg}
@@ -56,10 +57,17 @@ clamped_range c most None = None
 clamped_range true most (Some r) = Some (record { least = int_max (pos 0) (int_min r.least most); greatest = int_max (pos 0) (int_min r.greatest most) })
 clamped_range false most (Some r) = Some r
 
+-- a constant place that is clamped is the clamped number, and nothing else is written of it
+abbrev pub number_range : ℤ → ℤ → Range
+number_range most k = only (int_max (pos 0) (int_min k most))
+
 -- the interval of the place of a dimension, over the intervals of the outer variables, and none where one of its parts leaves the
 -- limits
 abbrev pub place_range : List Range → ℕ → Dimension → Option Range
-place_range outer size d = clamped_range d.clamped (pos size -ℤ d.extent) (range_of_spread (bounded (chosen d.coefs outer) [] (place_expr d.coefs d.offset)))
+place_range outer size d =
+    if d.clamped && all_zero d.coefs
+    then Some (number_range (pos size -ℤ d.extent) d.offset)
+    else clamped_range d.clamped (pos size -ℤ d.extent) (range_of_spread (bounded (chosen d.coefs outer) [] (place_expr d.coefs d.offset)))
 
 abbrev pub with_range : Option Range → Option (List Range) → Option (List Range)
 with_range (Some r) (Some rs) = Some (r ∷ rs)

@@ -4,7 +4,6 @@ use Rattle.std.specs.Prelude.{ℕ, suc, ℤ, pos, ◌+ℤ◌, Bool, true, false,
 use Rattle.constraint_set.specs.Points.{LinearSystem}
 use Rattle.constraint_set.specs.Reach.{Reach, never, between}
 use Rattle.affine_expr.specs.Spread.{Range}
-use Rattle.affine_expr.specs.Forms.{Form}
 use Rattle.affine_ast.specs.declared.module.Arg.{Arg}
 use Rattle.affine_ast.specs.declared.name.Name.{Name}
 use Rattle.affine_ast.specs.declared.types.Access.{Access}
@@ -12,7 +11,7 @@ use Rattle.affine_ast.specs.declared.types.Bound.{Bound}
 use Rattle.affine_ast.specs.Intervals.{ranges_at}
 use Rattle.affine_ast.specs.Nest.{Nest}
 use Rattle.nest_domain.specs.Boxes.{Dimension}
-use Rattle.nest_domain.specs.Ways.{Header, Round, Use, Affine, Other, uses, loop_count, loop_names}
+use Rattle.nest_domain.specs.Ways.{Header, Round, Use, Affine, Other, uses, loop_names}
 use Rattle.nest_domain.specs.Domains.{Known, Accessed, symbol_names, place, access, system_of}
 use Rattle.access_region.specs.Faults.{NoRegion, unplaced, ◌>>=◌, by_form}
 use Rattle.access_region.specs.Candidates.{Reaching, candidates}

@@ -1,5 +1,5 @@
 -- How far the accesses of a memref lie from a candidate, and which candidate is the best.
-use Rattle.std.specs.Prelude.{ℕ, ℤ, pos, ◌+ℤ◌, ◌-ℤ◌, Bool, if◌then◌else◌, int_lt, List, [], ◌∷◌, Option, Some, None, Result, Ok, Err}
+use Rattle.std.specs.Prelude.{ℕ, ℤ, pos, ◌+ℤ◌, ◌-ℤ◌, if◌then◌else◌, int_lt, List, [], ◌∷◌, Option, Some, None, Result, Ok, Err}
 use Rattle.std.specs.Int.{int_min, int_max}
 use Rattle.constraint_set.specs.Points.{LinearSystem}
 use Rattle.constraint_set.specs.Reach.{Reach, never, between, reach_of}

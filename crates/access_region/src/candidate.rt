@@ -7,8 +7,8 @@ ghost use Rattle.access_region.specs.Faults.{Meets, Leaves, by_elimination};
 ghost use Rattle.access_region.specs.Candidates.{subscript, first_at, replaced_one, replaced, candidate, has_coefs, with_candidate, with_candidates, candidates};
 
 use crate::fault::RegionFault;
+use crate::multiple::plus_multiple;
 use crate::reaching::{Going, Reaching, filled};
-use projection::mix;
 use std::alloc::{AllocError, Global};
 use std::marker::Model;
 
@@ -76,7 +76,7 @@ fn replaced_one(
 {
     let before = filled(alloc, place, coefs)?;
     let bound = filled(alloc, place, bound)?;
-    let out = mix(alloc, 1, &before, coef(coefs, place), &bound)?;
+    let out = plus_multiple(alloc, &before, coef(coefs, place), &bound)?;
     Ok(out)
 }
 

@@ -1,13 +1,15 @@
 //! The interval of a place, and whether a region's templates keep to the rule on intervals.
 
-ghost use Rattle.std.specs.Prelude.{◌≡◌, pos, neg_ℤ, ◌+ℤ◌, ◌-ℤ◌, ◌*ℤ◌, length, drop, IfOk, option_map, false};
+ghost use Rattle.std.specs.Prelude.{◌≡◌, pos, neg_ℤ, ◌+ℤ◌, ◌-ℤ◌, ◌*ℤ◌, length, drop, IfOk, option_map, true, false, ◌&&◌};
 ghost use Rattle.std.specs.Int.{int_min, int_max};
+ghost use Rattle.std.specs.Ordering.{int_eq};
+ghost use Rattle.constraint_set.specs.Tidy.{all_zero};
 ghost use Rattle.affine_expr.specs.Spread.{scaled};
 ghost use Rattle.affine_expr.specs.Bounded.{range_at, ranges};
 ghost use Rattle.affine_expr.specs.Guarded.{small};
 ghost use Rattle.affine_expr.specs.Pure.{is_outside};
 ghost use Rattle.access_region.specs.PlaceRanges.{kept, plus, less, opposite, times, first_range, size_range, added_range, numbered_range, head, next_range, step_range, form_range};
-ghost use Rattle.access_region.specs.Places.{place_range, place_ranges, fits, copies_fit, subscripts_fit, accesses_fit, region_fits};
+ghost use Rattle.access_region.specs.Places.{number_range, place_range, place_ranges, fits, copies_fit, subscripts_fit, accesses_fit, region_fits};
 
 use crate::reaching::Reaching;
 use affine_expr::Interval;
@@ -264,9 +266,49 @@ fn clamped(range: Interval, most: i64) -> Interval
     }
 }
 
-/// The interval of the place of a dimension, over the intervals of the outer variables.
+/// A number that is moved between 0 and another number.
+fn clamped_number(number: i128, most: i64) -> i64
+    ensures { result ≡ int_max (pos 0) (int_min number most) }
+{
+    if number >= most as i128 {
+        return most.max(0);
+    }
+    if number < 0 { 0 } else { number as i64 }
+}
+
+/// The interval of a constant place that is clamped.
+fn number_range(number: i128, most: i64) -> Interval
+    ensures { range_at result ≡ number_range most number }
+{
+    let place = clamped_number(number, most);
+    Interval {
+        least: place,
+        greatest: place,
+    }
+}
+
+fn is_zero(number: i128) -> bool
+    ensures { result ≡ int_eq number (pos 0) }
+{
+    number == 0
+}
+
+/// Whether a combination names no variable.
+fn all_zero(coefs: &[i128]) -> bool
+    ensures { result ≡ all_zero coefs.now }
+{
+    for coef in coefs {
+        if !is_zero(*coef) {
+            return false;
+        }
+    }
+    true
+}
+
+/// The interval of a place that names a variable, or isn't clamped.
 #[tactic(auto, using(crate::proofs::PlaceRanged::place_none, crate::proofs::PlaceRanged::place_plain, crate::proofs::PlaceRanged::place_clamped))]
-fn place_range(intervals: &[Interval], size: u32, dim: &RegionDim) -> Option<Interval>
+fn varying_range(intervals: &[Interval], size: u32, dim: &RegionDim) -> Option<Interval>
+    requires { (dim.now.clamped && all_zero dim.now.coefs) ≡ false }
     ensures { option_map range_at result ≡ place_range (ranges intervals.now) size dim.now }
 {
     let range = form_range(&dim.coefs, dim.offset, intervals)?;
@@ -276,6 +318,25 @@ fn place_range(intervals: &[Interval], size: u32, dim: &RegionDim) -> Option<Int
     let most = room(size, dim.extent);
     let moved = clamped(range, most);
     Some(moved)
+}
+
+/// Whether a place is a number that is moved into the memref.
+fn is_clamped_number(dim: &RegionDim) -> bool
+    ensures { result ≡ (dim.now.clamped && all_zero dim.now.coefs) }
+{
+    dim.clamped && all_zero(&dim.coefs)
+}
+
+/// The interval of the place of a dimension, over the intervals of the outer variables.
+#[tactic(auto, using(crate::proofs::PlaceRanged::place_number))]
+fn place_range(intervals: &[Interval], size: u32, dim: &RegionDim) -> Option<Interval>
+    ensures { option_map range_at result ≡ place_range (ranges intervals.now) size dim.now }
+{
+    if is_clamped_number(dim) {
+        let most = room(size, dim.extent);
+        return Some(number_range(dim.offset, most));
+    }
+    varying_range(intervals, size, dim)
 }
 
 /// The intervals of the places of all dimensions; none where one leaves the limits.

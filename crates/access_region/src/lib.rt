@@ -7,6 +7,7 @@ mod candidate;
 mod dimension;
 mod fault;
 mod interval;
+mod multiple;
 mod reaching;
 mod region;
 mod span;

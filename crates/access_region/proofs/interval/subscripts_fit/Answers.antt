@@ -1,4 +1,4 @@
-use Rattle.std.proofs.Common.{rules, arith, ◌≡◌, get_or, length, Bool, true, false, ◌&&◌, ◌+◌, ◌<◌, pos, ◌+ℤ◌, ◌-ℤ◌, drop, ap, sym, ◌∙◌}
+use Rattle.std.proofs.Common.{rules, arith, ◌≡◌, get_or, length, true, false, ◌&&◌, ◌+◌, ◌<◌, pos, ◌-ℤ◌, drop, ap, sym, ◌∙◌}
 use Rattle.affine_expr.specs.declared.map.Interval.{Interval}
 use Rattle.affine_expr.specs.Bounded.{ranges}
 use Rattle.access_region.specs.Places.{fits, subscripts_fit}

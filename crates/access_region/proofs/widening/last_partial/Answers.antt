@@ -1,4 +1,4 @@
-use Rattle.std.proofs.Common.{rules, arith, ◌≡◌, ◌<◌, length, get_or}
+use Rattle.std.proofs.Common.{rules, arith, ◌<◌, length, get_or}
 use Rattle.access_region.proofs.Wholes.{same_size, partial_made}
 use Rattle.access_region.proofs.widening.last_partial.Goals as goal
 

@@ -1,4 +1,4 @@
-use Rattle.std.proofs.Common.{rules, arith, ◌≡◌, length, ◌∙◌}
+use Rattle.std.proofs.Common.{rules, arith, length, ◌∙◌}
 use Rattle.access_region.proofs.Wholes.{widened_end, widened_stop, widened_turn, widened_done}
 use Rattle.access_region.proofs.widening.widen.Goals as goal
 

@@ -1,4 +1,4 @@
-use Rattle.std.proofs.Common.{rules, arith, ◌≡◌, ◌<◌, length, get_or, ap, sym, ◌∙◌, pos}
+use Rattle.std.proofs.Common.{arith, ◌<◌, length, get_or, ap, sym, ◌∙◌, pos}
 use Rattle.access_region.specs.Widening.{sides, whole_dim}
 use Rattle.access_region.proofs.Wholes.{same_size, whole_is_set}
 use Rattle.access_region.proofs.widening.widen_last.Goals as goal
