@@ -43,7 +43,7 @@ pub fn parted(dims: u32, forms: &[Combination]) -> (&[Combination], &[Combinatio
 }
 
 /// The forms of expressions, one after the other.
-pub fn all_formed(
+pub(crate) fn all_formed(
     alloc: Global,
     exprs: &[Expr],
     leaves: &Leaves<'_>,
@@ -62,7 +62,7 @@ pub fn all_formed(
 }
 
 /// The forms of a map's results.
-pub fn map_forms<'a>(
+pub(crate) fn map_forms<'a>(
     alloc: Global,
     table: &Forms<'a>,
     width: u32,
@@ -92,7 +92,7 @@ pub fn one(alloc: Global, form: Combination) -> Result<Vec<Combination>, LinearF
 }
 
 /// The forms of a bound's results.
-pub fn bound_forms<'a>(
+pub(crate) fn bound_forms<'a>(
     alloc: Global,
     table: &Forms<'a>,
     width: u32,

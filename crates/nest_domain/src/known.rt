@@ -1,5 +1,5 @@
 // What is gathered along the way to a place.
-ghost use Rattle.std.specs.Prelude.{◌≡◌, ℕ, ◌+◌, true, Ok};
+ghost use Rattle.std.specs.Prelude.{◌≡◌, ℕ, suc, ◌+◌, true, Ok};
 ghost use Rattle.std.specs.List.{list_all};
 ghost use Rattle.affine_expr.specs.Linear.{Meets};
 ghost use Rattle.module_work.specs.Workable.{WorkableAccess};
@@ -57,8 +57,18 @@ fn with_more(number: u32, more: usize) -> Result<u32, LinearFault>
     Ok(number + more as u32)
 }
 
+/// A number of variables and one more.
+pub(crate) fn one_more(number: u32) -> Result<u32, LinearFault>
+    ensures { Meets {A = ℕ} (Ok (suc number)) (λ n. n) result }
+{
+    if number == u32::MAX {
+        return Err(LinearFault::Memory);
+    }
+    Ok(number + 1)
+}
+
 /// Takes in the locals of divisions, with their rows.
-fn add_divisions<'a>(
+pub(crate) fn add_divisions<'a>(
     alloc: Global,
     locals: &[Local],
     known: &mut KnownForms<'a>,
@@ -72,7 +82,7 @@ fn add_divisions<'a>(
 }
 
 /// Goes into the first region of a condition.
-pub fn enter_condition<'a>(
+pub(crate) fn enter_condition<'a>(
     alloc: Global,
     set: &'a Set,
     operands: &'a [Name],
@@ -95,7 +105,7 @@ pub fn enter_condition<'a>(
 }
 
 /// Gives a result of `affine.apply` its form.
-pub fn apply_form<'a>(
+pub(crate) fn apply_form<'a>(
     alloc: Global,
     named: &'a Name,
     at: &'a Access,

@@ -189,7 +189,7 @@ pub fn upper_rows(
     Ok(rows)
 }
 
-fn two(
+pub(crate) fn two(
     alloc: Global,
     first: Combination,
     second: Combination,
@@ -223,7 +223,7 @@ fn compared_rows(
 }
 
 /// The rows of a set over the forms of its operands.
-pub fn set_rows(
+pub(crate) fn set_rows(
     alloc: Global,
     constraints: &[Constraint],
     leaves: &Leaves<'_>,
@@ -272,7 +272,7 @@ fn form_under(local: &Local) -> Result<Combination, LinearFault>
     })
 }
 
-fn widened(number: i64) -> i128
+pub(crate) fn widened(number: i64) -> i128
     ensures { result ≡ number }
 {
     number as i128

@@ -26,7 +26,10 @@ pub enum Step<'a> {
         step: i64,
     },
     /// Into the first region of a condition.
-    Given { set: &'a Set, operands: &'a [Name] },
+    Given {
+        set: &'a Set,
+        operands: &'a [Name],
+    },
     /// Into the `else` region of a condition, behind its first one.
     Except {
         set: &'a Set,
@@ -34,7 +37,11 @@ pub enum Step<'a> {
         first: &'a [Stmt],
     },
     /// Past a statement that has no region.
-    Behind { what: &'a What },
+    Behind {
+        what: &'a What,
+    },
     /// Past a region.
-    Past { body: &'a [Stmt] },
+    Past {
+        body: &'a [Stmt],
+    },
 }

@@ -47,7 +47,7 @@ pub fn form_of<'a>(forms: &Forms<'a>, name: &'a Name) -> Result<Combination, Lin
 }
 
 /// Gives a name a form, or none.
-pub fn set_form<'a>(
+pub(crate) fn set_form<'a>(
     forms: &mut Forms<'a>,
     name: &'a Name,
     form: Option<Combination>,
