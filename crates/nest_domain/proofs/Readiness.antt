@@ -109,11 +109,11 @@ stepped rho h (Some t) s e r f =
     let same : record { way = h ∷ t.way; here = t.here } ≡ s = cc in
     subst (IsReady rho) same (record { way = (r, k.way); here = k.here })
 
-no_step : {A : Type 0} (b : Bool) (o : Option Spot) (s : Spot) → (cond b None o) ≡ Some s → (o ≡ Some s → A) → A
+pub no_step : {A : Type 0} (b : Bool) (o : Option Spot) (s : Spot) → (cond b None o) ≡ Some s → (o ≡ Some s → A) → A
 no_step true o s e f = absurd (let z : ⊥ = cc in z)
 no_step false o s e f = f e
 
-either : {A : Type 0} (b : Bool) (o p : Option Spot) (s : Spot) → cond b o p ≡ Some s → (o ≡ Some s → A) → (p ≡ Some s → A) → A
+pub either : {A : Type 0} (b : Bool) (o p : Option Spot) (s : Spot) → cond b o p ≡ Some s → (o ≡ Some s → A) → (p ≡ Some s → A) → A
 either true o p s e f g = f e
 either false o p s e f g = g e
 

@@ -74,6 +74,10 @@ HasBounds (Except set names first ∷ hs) = HasBounds hs
 HasBounds (Behind p ∷ hs) = HasBounds hs
 HasBounds (Past n ∷ hs) = HasBounds hs
 
+-- in a valid module the loops round a statement that a path names have such bounds
+abbrev pub WaysHaveBounds : Type 0
+WaysHaveBounds = (m : Module) → IsValid m → (steps : List (ℕ × Bool)) (s : Spot) → at_path (nest m.body) steps ≡ Some s → HasBounds s.way
+
 -- a combination of the outer variables is bounded over the points of a place, and so is a subscript of an access, less such a
 -- combination, over the points of the access
 abbrev pub CombinationsAreBounded : Type 0

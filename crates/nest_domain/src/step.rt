@@ -1,16 +1,4 @@
-// One thing on the way to a statement, as code has it.
-//
-// What is known before it becomes what is known behind it by `along_step`, in `src/entering.rt`:
-//
-//     /// Takes one step; `needed` says whether a value that it gives is used behind it.
-//     pub fn along_step<'a>(
-//         alloc: Global,
-//         step: &Step<'a>,
-//         needed: bool,
-//         known: &mut KnownForms<'a>,
-//     ) -> Result<(), LinearFault>
-//         requires { ReadyHeader (header_of step.now) (known_of known.old).ranges }
-//         ensures { Becomes (along_by (header_of step.now) needed (known_of known.old)) known.new result }
+// One thing on the way to a statement, as code has it. `along_step` takes it.
 
 use affine_ast::{Bound, Name, Stmt, What};
 use affine_expr::Set;
@@ -44,4 +32,18 @@ pub enum Step<'a> {
     Past {
         body: &'a [Stmt],
     },
+}
+
+/// A step, with whether its value is needed behind it.
+#[derive(Drop)]
+pub struct Mark<'a> {
+    pub step: Step<'a>,
+    pub needed: bool,
+}
+
+/// A statement of a module, with the way to it: `here` begins with it.
+#[derive(Drop)]
+pub struct Found<'a> {
+    pub way: Vec<Step<'a>>,
+    pub here: &'a [Stmt],
 }
