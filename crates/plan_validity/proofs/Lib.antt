@@ -1,0 +1,4 @@
+pub mod Around
+pub mod Scopes
+pub mod Numbers
+pub mod Pass

@@ -1,0 +1,4 @@
+pub mod Shapes
+pub mod Keeping
+pub mod Owned
+pub mod Theorem
