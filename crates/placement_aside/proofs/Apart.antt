@@ -1,5 +1,5 @@
 -- Raw accesses and transfers of other memrefs have no place of an argument, in a text that passes; and what is released.
-use Rattle.std.proofs.Common.{◌≡◌, ℕ, zero, suc, ◌+◌, ◌<◌, ◌≤◌, ℤ, List, [], ◌∷◌, Bool, true, false, Option, Some, None, refl, sym, ap, ◌∙◌, subst, arith}
+use Rattle.std.proofs.Common.{◌≡◌, ℕ, zero, suc, ◌+◌, ◌<◌, ℤ, List, [], ◌∷◌, Bool, true, false, Option, Some, None, refl, sym, ap, ◌∙◌, subst, arith}
 use Rattle.std.specs.Prelude.{◌&&◌, not, is_some, nat_eq, fold, if◌then◌else◌}
 use Rattle.std.proofs.lemmas.Bool.{and_parts}
 use Rattle.affine_ast.specs.declared.module.Arg.{Arg}
@@ -30,11 +30,11 @@ use Rattle.placement_texts.specs.Labels.{Numbers, tag_up}
 use Rattle.placement_texts.specs.OneTag.{InText}
 use Rattle.placement_texts.specs.Spots.{stage_one, found}
 use Rattle.placement_texts.specs.Template.{slow_type, dim_sizes}
-use Rattle.placement_texts.specs.Valid.{Passes, StagesArgument, AllPass}
+use Rattle.placement_texts.specs.Valid.{Passes, StagesArgument}
 use Rattle.placement_texts.proofs.ApartValid.{Beside, Laid, NoSlow, IsBased, Based, based_name, based_behind, Begun, begun_all, pure_based, argument_there}
 use Rattle.placement_texts.proofs.StagedValid.{arguments_told}
 use Rattle.staging_laws.specs.Spared.{HomeAside, Aside, ReleasedTogether}
-use Rattle.placement_aside.specs.Law.{ReleaseIsOne, AllAside, PassingIsAside}
+use Rattle.placement_aside.specs.Law.{ReleaseIsOne, PassingIsAside}
 use Rattle.placement_aside.proofs.Starts.{misses, EndsBeside, start_misses}
 use Rattle.placement_aside.proofs.Released.{release_staged}
 

@@ -1,5 +1,5 @@
 -- Where each memref of tags that is released has one element, so it is in the text in which a memref is staged.
-use Rattle.std.proofs.Common.{ℕ, suc, ℤ, List, [], ◌∷◌, ◌≡◌, refl, Bool, true, false}
+use Rattle.std.proofs.Common.{ℕ, suc, ℤ, List, [], ◌∷◌, refl, Bool, true, false}
 use Rattle.std.specs.Prelude.{Option, Some, None, if◌then◌else◌}
 use Rattle.affine_ast.specs.declared.name.Name.{Name}
 use Rattle.affine_ast.specs.declared.types.Bound.{Bound}

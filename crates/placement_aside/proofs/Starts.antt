@@ -1,5 +1,5 @@
 -- The places of a transfer lie between its memref's first one and its end, so they are none of a memref's beside it.
-use Rattle.std.proofs.Common.{◌≡◌, ◌⊎◌, inl, inr, ℕ, zero, suc, ◌+◌, ◌<◌, ◌≤◌, ℤ, List, [], ◌∷◌, map, Bool, true, false, Option, Some, None, refl, sym, ap, ◌∙◌, subst, arith}
+use Rattle.std.proofs.Common.{◌≡◌, inl, inr, ℕ, zero, suc, ◌+◌, ◌<◌, ◌≤◌, List, [], ◌∷◌, map, Bool, true, false, Option, Some, None, refl, sym, ap, ◌∙◌, subst, arith}
 use Rattle.std.specs.Prelude.{◌&&◌, nat_le, nat_lt, if◌then◌else◌}
 use Rattle.std.specs.List.{list_all, range_with_len}
 use Rattle.std.proofs.lemmas.Bool.{and_parts, ltb-true}
@@ -11,7 +11,7 @@ use Rattle.bus_model.specs.declared.step.FaultKind.TheVariants.{Bounds, Shape}
 use Rattle.bus_model.specs.declared.transfer.Transfer.{Transfer}
 use Rattle.bus_model.specs.Places.{slow_place}
 use Rattle.direct_meaning.specs.Action.{Home, SlowMemref, FastMemref, TagMemref, Place, Slow, Fast, Outside, Action, Starts, Faults}
-use Rattle.direct_meaning.specs.Actions.{half_cells, Layout, layout_of, has_shape, started, transfer_of, start_between, start_of}
+use Rattle.direct_meaning.specs.Actions.{half_cells, Layout, has_shape, started, transfer_of, start_between, start_of}
 use Rattle.direct_meaning.specs.Static.{Env, cell_in, results_of, slow_at, place_at, place_of, tag_of}
 use Rattle.direct_meaning.specs.Transfers.{ends_by}
 use Rattle.placement_texts.specs.Boxes.{is_of}

@@ -1,6 +1,6 @@
 -- Memrefs are apart in each text on the way of a plan, for raw accesses and transfers too, and the tags of a dealloc move up
 -- together.
-use Rattle.std.specs.Prelude.{◌≡◌, ℕ, ℤ, false, List, [], ◌∷◌}
+use Rattle.std.specs.Prelude.{◌≡◌, ℤ, false, List, [], ◌∷◌}
 use Rattle.affine_ast.specs.declared.module.Arg.{Arg}
 use Rattle.affine_ast.specs.Nest.{Plain, Nest, Dealloc}
 use Rattle.affine_ast.specs.Sizes.{product}

@@ -1,6 +1,6 @@
 -- A store among the uses of a text stands at a place; what holds of each statement holds of it at each visit, and its action is
 -- in the list.
-use Rattle.std.proofs.Common.{◌≡◌, ℕ, zero, suc, ◌+◌, ◌<◌, Bool, true, false, cond, List, [], ◌∷◌, ◌++◌, length, get_or, ℤ, pos, refl, sym, ◌∙◌, ap, subst, arith, append_assoc, append-nil, length-append}
+use Rattle.std.proofs.Common.{◌≡◌, ℕ, zero, suc, ◌<◌, Bool, true, false, cond, List, [], ◌∷◌, ◌++◌, length, get_or, ℤ, refl, sym, ◌∙◌, ap, subst, arith, append_assoc, append-nil, length-append}
 use Rattle.std.specs.Prelude.{flat_map, Contains}
 use Rattle.constraint_set.specs.Lists.{Each}
 use Rattle.constraint_set.proofs.Steps.{Each-append, Each-weaken}

@@ -1,5 +1,5 @@
 -- Where a region is covered, the loop of a visit stores to each element of the box.
-use Rattle.std.proofs.Common.{◌≡◌, ℕ, suc, ◌+◌, ◌≤◌, ◌<◌, Bool, true, List, [], ◌∷◌, ◌++◌, drop, length, Some, ℤ, pos, negsuc, ◌+ℤ◌, ◌≤ℤ◌, ◌<ℤ◌, refl, sym, ◌∙◌, ap, subst, arith}
+use Rattle.std.proofs.Common.{◌≡◌, ℕ, ◌+◌, Bool, true, List, [], ◌∷◌, ◌++◌, drop, length, Some, ℤ, pos, ◌+ℤ◌, ◌≤ℤ◌, ◌<ℤ◌, refl, sym, ◌∙◌, ap, subst, arith}
 use Rattle.std.specs.Prelude.{Contains}
 use Rattle.std.proofs.lemmas.Int.{ints}
 use Rattle.constraint_set.specs.Lists.{Each}
@@ -19,33 +19,30 @@ use Rattle.direct_meaning.specs.Static.{Env}
 use Rattle.direct_meaning.specs.Turns.{gap}
 use Rattle.valid_laws.proofs.Passing.{valid_affine}
 use Rattle.boxes.specs.Boxes.{Side}
-use Rattle.nest_domain.specs.Ways as ways
-use Rattle.nest_domain.specs.Ways.{Header, Affine, uses, loop_count}
+use Rattle.nest_domain.specs.Ways.{uses, loop_count}
 use Rattle.nest_domain.specs.Domains.{symbol_count}
 use Rattle.nest_domain.specs.Boxes as region
 use Rattle.nest_domain.specs.Boxes.{begins_at, AllWithin, AllIn}
 use Rattle.nest_domain.specs.Visits.{Visits}
 use Rattle.access_region.specs.Covers.{covers}
 use Rattle.access_region.specs.Regions.{uses_at}
-use Rattle.access_region.specs.Places.{region_of}
-use Rattle.access_region.proofs.Covered.{SweptBy, swept_by_one}
+use Rattle.access_region.proofs.Covered.{swept_by_one}
 use Rattle.access_region.proofs.Lengths.{regions_are_over}
-use Rattle.placement_texts.specs.Boxes.{sizes_of, LiesIn, InBox}
+use Rattle.placement_texts.specs.Boxes.{sizes_of, InBox}
 use Rattle.placement_texts.specs.Regions.{place_number, spans_at, ReachesBox}
 use Rattle.placement_texts.specs.Spots.{Spot, Fine}
 use Rattle.placement_texts.specs.Template.{Placement}
-use Rattle.placement_texts.specs.Each as text
 use Rattle.placement_texts.proofs.Redirect.{lies_at}
-use Rattle.staging_laws.specs.Spared.{AtLoop, StoresAll, IsStored}
+use Rattle.staging_laws.specs.Spared.{StoresAll, IsStored}
 use Rattle.staging_laws.proofs.Covered.{stores_all}
 use Rattle.placement_regions.specs.Sites.{from_spot, alone, way_to, loop_uses, outer_names, dim_over, dims_over, IsOfRegion, ExtentsFit}
 use Rattle.placement_regions.proofs.Visited.{at_visits, path_to, path_is, IsLoopText, loop_there, alone_affine}
 use Rattle.placement_regions.proofs.Known.{AreHeld}
 use Rattle.placement_regions.proofs.Boxed.{place_is, gap_is, gap_some}
 use Rattle.placement_regions.proofs.Extents.{dims_extents}
-use Rattle.placement_regions.proofs.Theorem.{region_extents, region_within, HeldAt, held_at, fine_over}
+use Rattle.placement_regions.proofs.Theorem.{region_extents, region_within, held_at, fine_over}
 use Rattle.placement_covers.specs.Law.{is_covered, Covered, CoveredIsStored}
-use Rattle.placement_covers.proofs.Found.{StoreAt, AtPlace, uses_placed, each_there, action_there}
+use Rattle.placement_covers.proofs.Found.{AtPlace, uses_placed, each_there, action_there}
 
 drop_front : {A : Type 0} (xs ys : List A) → drop (length xs) (xs ++ ys) ≡ ys
 drop_front [] ys = refl

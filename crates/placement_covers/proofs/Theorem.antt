@@ -1,5 +1,5 @@
 -- The law: a cover is carried over.
-use Rattle.std.proofs.Common.{◌≡◌, ◌⊎◌, inl, inr, ℕ, ◌+◌, ◌<◌, ◌≤◌, sym, ap, ◌∙◌, subst, refl, arith, Bool, true, false}
+use Rattle.std.proofs.Common.{◌≡◌, inl, inr, ℕ, ◌+◌, ◌<◌, sym, ap, ◌∙◌, subst, refl, arith, Bool, true, false}
 use Rattle.std.specs.Prelude.{◌&&◌, nat_le, nat_lt, List}
 use Rattle.affine_ast.specs.declared.name.Name.{Name}
 use Rattle.affine_ast.specs.Nest.{Nest}
@@ -17,7 +17,7 @@ use Rattle.placement_texts.specs.Template.{Placement, dim_sizes}
 use Rattle.placement_texts.proofs.Follows.{Follows}
 use Rattle.placement_texts.proofs.Redirect.{sizes_at, lies_at}
 use Rattle.staging_laws.specs.Joined.{places_in}
-use Rattle.staging_laws.specs.Spared.{AtLoop, StoresAll}
+use Rattle.staging_laws.specs.Spared.{StoresAll}
 use Rattle.staging_laws.proofs.AtLoops.{at_fine, at_both}
 use Rattle.staging_laws.proofs.Cells.{is_box, sizes_volume, extents_count}
 use Rattle.placement_covers.specs.Law.{Covered, Beside, CoverCarries}

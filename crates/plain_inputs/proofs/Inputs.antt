@@ -1,21 +1,19 @@
 -- Texts without allocations and transfers.
-use Rattle.std.proofs.Common.{◌≡◌, ℕ, suc, ℤ, List, [], ◌∷◌, Option, Some, None, refl, sym, ap, ◌∙◌, subst, Bool, true, false}
+use Rattle.std.proofs.Common.{◌≡◌, ℕ, suc, ℤ, List, [], ◌∷◌, Option, Some, None, refl, sym, subst, Bool, true, false}
 use Rattle.std.specs.Prelude.{◌&&◌, fold, nat_le, if◌then◌else◌}
-use Rattle.std.proofs.lemmas.Bool.{and_parts}
 use Rattle.affine_ast.specs.declared.module.Arg.{Arg}
 use Rattle.affine_ast.specs.declared.module.ArgKind.{ArgKind}
 use Rattle.affine_ast.specs.declared.module.ArgKind.TheVariants as kind
 use Rattle.affine_ast.specs.declared.module.Module.{Module}
 use Rattle.affine_ast.specs.declared.name.Name.{Name}
-use Rattle.affine_ast.specs.declared.types.MemrefType.{MemrefType}
 use Rattle.affine_ast.specs.declared.types.Scalar.{Scalar}
 use Rattle.affine_ast.specs.declared.types.Scalar.TheVariants as scalar
 use Rattle.affine_ast.specs.Names.{same_name, put}
 use Rattle.affine_ast.proofs.Names.{put-same, put-other}
 use Rattle.affine_ast.specs.Nest.{Plain, Nest, Nothing, Loop, Branch, Does, Value, Load, Store, RawLoad, RawStore, Constant, Binary, Cast, Alloc, Dealloc, Start, Wait, Return, nest}
 use Rattle.affine_ast.specs.PlainLimits.{bound_short, set_short, plain_stands, PlainTold, FaultAt, Counted, then_plain, plain_judged, plain_told, line_of_fault, plain_fault}
-use Rattle.direct_meaning.specs.Action.{Home, SlowMemref, FastMemref, TagMemref, Place, Action}
-use Rattle.direct_meaning.specs.Actions.{constant_of, action_of, after_plain, behind, actions}
+use Rattle.direct_meaning.specs.Action.{Home, SlowMemref, FastMemref, TagMemref}
+use Rattle.direct_meaning.specs.Actions.{constant_of, action_of, after_plain, behind}
 use Rattle.direct_meaning.specs.Memory.{Placed, place_kind, place_arg, empty_env, start_env}
 use Rattle.direct_meaning.specs.Static.{Env, knows, cell_in, results_of, slow_at, place_at, place_of, lower_of, upper_of}
 use Rattle.direct_meaning.specs.Turns.{turns}
