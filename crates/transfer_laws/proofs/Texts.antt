@@ -1,5 +1,5 @@
 -- The starts of a valid text: its names for tags stand for tags of the text.
-use Rattle.std.proofs.Common.{◌≡◌, ℕ, suc, ◌+◌, ◌≤◌, ℤ, Bool, true, false, List, [], ◌∷◌, ◌++◌, refl, sym, ap, ◌∙◌, subst, arith}
+use Rattle.std.proofs.Common.{◌≡◌, ℕ, suc, ◌+◌, ◌≤◌, ℤ, Bool, true, false, List, [], ◌∷◌, ◌++◌, refl, sym, ap, ◌∙◌, arith}
 use Rattle.std.specs.Prelude.{◌&&◌, flat_map, Option, Some, None, if◌then◌else◌}
 use Rattle.std.proofs.lemmas.Bool.{and_parts}
 use Rattle.affine_ast.specs.declared.name.Name.{Name}
@@ -14,15 +14,14 @@ use Rattle.affine_ast.specs.Rules.{is_memref_of, binding_is_memref_of, ends_type
 use Rattle.affine_ast.specs.Scope.{Binding, Allocation, Scope, Totals, Around, counted, in_loop, in_condition, with_totals, behind_plain, binding_of_constant}
 use Rattle.affine_ast.specs.Sizes.{product}
 use Rattle.affine_ast.specs.Validity.{Passed, then_told, told, rule_of_plain, rule_of_loop, rule_of_condition}
-use Rattle.bus_model.specs.declared.transfer.Transfer.{Transfer}
 use Rattle.direct_meaning.specs.Turns.{turns}
-use Rattle.direct_meaning.specs.Action.{Home, SlowMemref, FastMemref, TagMemref, Action, Allocates, AllocatesTags, Starts}
+use Rattle.direct_meaning.specs.Action.{Home, SlowMemref, FastMemref, TagMemref, Action, Allocates, AllocatesTags}
 use Rattle.direct_meaning.specs.Actions.{is_fast, dealloc_of, wait_of, layout_of, action_of, after_plain, tags_of_plain, tags_in, behind, actions}
 use Rattle.direct_meaning.specs.Static.{Env, knows, lower_of, upper_of, holds_at, tag_of}
 use Rattle.valid_laws.proofs.Passing.{Holds, judged_passed, then_passed, plain_holds}
 use Rattle.valid_laws.proofs.Scoped.{type_same}
-use Rattle.transfer_laws.specs.Law.{FitsBus, StartsWithin, AllWithin}
-use Rattle.transfer_laws.proofs.Starts.{IsTag, start_is}
+use Rattle.transfer_laws.specs.Law.{StartsWithin, AllWithin}
+use Rattle.transfer_laws.proofs.Starts.{start_is}
 
 -- ---- lists
 

@@ -1,0 +1,5 @@
+pub mod Rooms
+pub mod Held
+pub mod Follow
+pub mod Runs
+pub mod Preparation
