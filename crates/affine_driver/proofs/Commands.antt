@@ -1,6 +1,6 @@
 -- Words ask for one command, by its first word and the values of its options.
 use Rattle.std.proofs.Common.{◌≡◌, ℕ, ◌<◌, ◌≤◌, Bool, true, false, List, [], ◌∷◌, Option, Some, None, ℤ, pos, negsuc, refl, sym, ap, ◌∙◌, subst, arith, lit<, length, map, take, drop, get_or, ◌-◌, Result}
-use Rattle.std.specs.Prelude.{◌↔◌, ◌&&◌, int_le, nat_lt, if◌then◌else◌, option_map, codes}
+use Rattle.std.specs.Prelude.{◌↔◌, int_le, nat_lt, if◌then◌else◌, codes}
 use Rattle.std.specs.Prelude.{IfOk}
 use Rattle.std.specs.Borrow.{Bor}
 use Rattle.std.specs.Str.{bytes_eq}
@@ -9,7 +9,6 @@ use Rattle.std.proofs.lemmas.List.{take_all}
 use Rattle.std.proofs.lemmas.Grind.{common_steps}
 use Rattle.std.proofs.lemmas.Bool.Decides.{nat_tests}
 use Rattle.std.proofs.lemmas.Slice.Eq.{bytes_eq-Decides}
-use Rattle.command_words.specs.declared.options.Takes.{Takes}
 use Rattle.command_words.specs.declared.options.Takes.TheVariants as takes
 use Rattle.command_words.specs.declared.options.Value.{Value}
 use Rattle.command_words.specs.declared.options.Value.TheVariants as value

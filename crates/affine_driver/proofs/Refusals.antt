@@ -1,98 +1,93 @@
--- Why a source is refused.
-use Rattle.std.proofs.Common.{◌≡◌, ◌≤◌, ℕ, List, length, None, refl, sym, inl, inr, arith}
+-- What a source comes to, from what it is made of.
+use Rattle.std.proofs.Common.{◌≡◌, ◌≤◌, ℕ, List, length, None, Result, Ok, Err, refl, sym, inl, inr, arith}
 use Rattle.affine_ast.specs.declared.module.Module.{Module}
-use Rattle.affine_ast.specs.Spelling.{spelling}
-use Rattle.affine_ast.specs.Validity.{IsValid}
+use Rattle.affine_ast.specs.Validity.{IsValid, first_broken}
 use Rattle.affine_ast.specs.PlainLimits.{plain_fault}
+use Rattle.affine_text.specs.declared.fault.ParseFault.{ParseFault}
+use Rattle.affine_text.specs.declared.fault.ParseFault.TheVariants as parser
+use Rattle.affine_text.specs.Parsed.{Parses}
+use Rattle.affine_verify.specs.declared.fault.VerifyFault.{VerifyFault}
+use Rattle.affine_verify.specs.declared.fault.VerifyFault.TheVariants as rules
+use Rattle.affine_verify.specs.Comes.{IsTold}
 use Rattle.copy_emit.specs.Template.{FirstLoop}
 use Rattle.first_path.specs.Form.{IsOfFirstForm}
 use Rattle.first_path.specs.Valid.{IsValidFirst}
 use Rattle.first_rules.specs.Laws.{FirstFormRules}
 use Rattle.affine_grammar.specs.Spelling.{Spells}
+use Rattle.mem_image.specs.declared.parse.ImageFault.{ImageFault}
+use Rattle.mem_image.specs.declared.parse.ImageFault.TheVariants as image_fault
+use Rattle.mem_image.specs.Faults.{IsFault}
 use Rattle.source_parts.specs.Parts.{text_part, image_part}
+use Rattle.staged_texts.specs.Laws.{SpellsStaged}
 use Rattle.affine_driver.specs.declared.command.Command.{Command}
-use Rattle.affine_driver.specs.declared.command.Command.TheVariants.{Check, Stage, Plain}
+use Rattle.affine_driver.specs.declared.command.Command.TheVariants.{Stage}
 use Rattle.affine_driver.specs.declared.command.StageOptions.{StageOptions}
-use Rattle.affine_driver.specs.declared.ending.Ending.{Ending}
-use Rattle.affine_driver.specs.declared.ending.Ending.TheVariants.{Done, Words, ReadFault, TooLong, Text, Invalid, Image, Fault, Unbuilt, WriteFault, Memory, Turns}
-use Rattle.affine_driver.specs.Output.{IsOutput}
+use Rattle.affine_driver.specs.declared.refusal.Refusal.{Refusal}
+use Rattle.affine_driver.specs.Behaviour.{Limited, OfFirstForm, Makes, ComesTo}
+use Rattle.affine_driver.specs.Outcome.{Outcome, Refused, Complete, Writes, Gives, Demands, Answered}
+use Rattle.affine_driver.specs.Output.{IsStageOutput}
+use Rattle.affine_driver.specs.Refusals.{OrMemory, SpellsNoImage, IsNotRead, of_parser, of_rules, of_image}
 use Rattle.affine_driver.proofs.Reports.{output_spells}
-use Rattle.affine_driver.specs.Refusals.{Refuses, IsNotRead, IsNotStaged, Stages, IsNotRun, Runs}
 
 -- a valid module that isn't of the first form with the rules of that form isn't of the first form
 pub not_of_form : FirstFormRules → (m : Module) → IsValid m → plain_fault m ≡ None → ((l : FirstLoop) → IsOfFirstForm m l → IsValidFirst m l → ⊥) → (l : FirstLoop) → IsOfFirstForm m l → ⊥
 not_of_form law m v p none l f = none l f (law m l f v p)
 
+-- ---- The errors of other crates
+
+pub no_text : (text : List ℕ) (fault : ParseFault) (refusal : Refusal) → refusal ≡ of_parser fault → Parses (Err fault) text → OrMemory (IsNotRead text) refusal
+no_text text (parser.Text line column) refusal e h = inr (inl (line, (column, (h, e))))
+no_text text parser.Memory refusal e h = inl e
+
+pub rule_broken : (text : List ℕ) (input : Module) (fault : VerifyFault) (refusal : Refusal) → refusal ≡ of_rules fault → Spells text input → IsTold fault (first_broken input) → OrMemory (IsNotRead text) refusal
+rule_broken text input (rules.Invalid line rule) refusal e s h = inr (inr (input, (s, (line, (rule, (h, e))))))
+rule_broken text input rules.Memory refusal e s h = inl e
+
+pub no_image : (text : List ℕ) (input : Module) (fault : ImageFault) (refusal : Refusal) → refusal ≡ of_image fault → IsFault text input fault → OrMemory (SpellsNoImage text input) refusal
+no_image text input (image_fault.Image line rule) refusal e h = inr (line, (rule, (h, e)))
+no_image text input image_fault.Memory refusal e h = inl e
+
+-- ---- Demands
+
+-- a demand fails
+pub fails : {A : Type 0} (Fails : Refusal → Type 0) (Holds : A → Type 0) (Behind : A → Outcome → Type 0) (refusal : Refusal) → OrMemory Fails refusal → OrMemory (λ r. Demands Fails Holds Behind (Refused r)) refusal
+fails Fails Holds Behind refusal (inl m) = inl m
+fails Fails Holds Behind refusal (inr h) = inr (inl (refusal, (h, refl)))
+
+-- a demand holds, and one behind it fails
+pub holds : {A : Type 0} (Fails : Refusal → Type 0) (Holds : A → Type 0) (Behind : A → Outcome → Type 0) (refusal : Refusal) (x : A) → Holds x → OrMemory (λ r. Behind x (Refused r)) refusal → OrMemory (λ r. Demands Fails Holds Behind (Refused r)) refusal
+holds Fails Holds Behind refusal x h (inl m) = inl m
+holds Fails Holds Behind refusal x h (inr k) = inr (inr (x, (h, k)))
+
+-- what is answered for one thing is answered for another that comes to what it comes to
+pub answered : {A : Type 0} (answer : Result A Refusal) (bytes_of : A → List ℕ) (One Other : Outcome → Type 0) → ((outcome : Outcome) → One outcome → Other outcome) → Answered answer bytes_of One → Answered answer bytes_of Other
+answered (Ok x) bytes_of One Other step h = step (Writes (bytes_of x)) h
+answered (Err refusal) bytes_of One Other step (inl m) = inl m
+answered (Err refusal) bytes_of One Other step (inr h) = inr (step (Refused refusal) h)
+
+-- ---- Commands
+
+-- what a command makes of the parts of a source, the source comes to
+pub comes_to : (command : Command) (source : List ℕ) (input : Module) (outcome : Outcome) → Spells (text_part source) input → IsValid input → Makes command input (image_part source) outcome → ComesTo command source outcome
+comes_to command source input outcome s v h = inr (input, (s, inr (tt, (v, h))))
+
 -- what isn't read is refused under every command
-pub unread : (command : Command) (source text : List ℕ) (ending : Ending) → text ≡ text_part source → IsNotRead text ending → Refuses command source ending
-unread command source text (Text line column) e h = rw (sym e) h
-unread command source text (Invalid line rule) e h = record { input = h.0; spelled = rw (sym e) h.1.0; broken = inl h.1.1 }
-unread command source text Memory e h = tt
-unread command source text Done e h = h
-unread command source text Words e h = h
-unread command source text ReadFault e h = h
-unread command source text TooLong e h = h
-unread command source text (Image line rule) e h = absurd h
-unread command source text (Fault kind) e h = absurd h
-unread command source text Unbuilt e h = absurd h
-unread command source text WriteFault e h = h
-unread command source text (Turns count) e h = absurd h
+pub unread : (command : Command) (source text : List ℕ) (refusal : Refusal) → text ≡ text_part source → OrMemory (IsNotRead text) refusal → OrMemory (λ r. ComesTo command source (Refused r)) refusal
+unread command source text refusal e (inl m) = inl m
+unread command source text refusal e (inr (inl h)) = inr (inl (refusal, (rw (sym e) h, refl)))
+unread command source text refusal e (inr (inr h)) = inr (inr (h.0, (rw (sym e) h.1.0, inl (refusal, (h.1.1, refl)))))
 
--- what is read and not staged is refused
-pub unstaged : (options : StageOptions) (source text : List ℕ) (input : Module) (ending : Ending) → text ≡ text_part source → Spells text input → IsValid input → IsNotStaged input ending → Refuses (Stage options) source ending
-unstaged options source text input (Invalid line rule) e s v h = record { input = input; spelled = rw (sym e) s; broken = inr (tt, v, h.0, h.1) }
-unstaged options source text input Unbuilt e s v h = record { stages = tt; input = input; spelled = rw (sym e) s; valid = (v, h.0); other = h.1 }
-unstaged options source text input Memory e s v h = tt
-unstaged options source text input Done e s v h = h
-unstaged options source text input Words e s v h = h
-unstaged options source text input ReadFault e s v h = h
-unstaged options source text input TooLong e s v h = h
-unstaged options source text input (Text line column) e s v h = absurd h
-unstaged options source text input (Image line rule) e s v h = absurd h
-unstaged options source text input (Fault kind) e s v h = absurd h
-unstaged options source text input WriteFault e s v h = h
-unstaged options source text input (Turns count) e s v h = absurd h
+-- what is staged spells a module that runs as the text's does
+pub staged : (options : StageOptions) (text behind : List ℕ) (input : Module) → length text ≤ 4194304 → Spells text input → (outcome : Outcome) → Limited input (OfFirstForm input (Gives (IsStageOutput input))) outcome
+    → Makes (Stage options) input behind outcome
+staged options text behind input short s outcome (inl h) = inl h
+staged options text behind input short s outcome (inr h) = inr (h.0, (h.1.0, formed outcome h.1.1))
+  where
+    given : (outcome : Outcome) → Gives (IsStageOutput input) outcome → Gives (λ output. IsStageOutput input output × SpellsStaged input output) outcome
+    given (Refused refusal) k = absurd k
+    given Complete k = tt
+    given (Writes output) k = (k, output_spells text output input (omega (arith, short)) s k)
 
--- what is read and not run to its end is refused
-pub unrun : (source text behind : List ℕ) (input : Module) (ending : Ending) → text ≡ text_part source → behind ≡ image_part source → Spells text input → IsValid input → IsNotRun input behind ending → Refuses Plain source ending
-unrun source text behind input (Invalid line rule) e i s v h = record { input = input; spelled = rw (sym e) s; broken = inr (tt, v, h.0, h.1) }
-unrun source text behind input (Image line rule) e i s v h = record { runs = refl; input = input; spelled = rw (sym e) s; valid = (v, h.0); broken = rw (sym i) h.1 }
-unrun source text behind input (Fault kind) e i s v h = record {
-  runs = refl;
-  input = input;
-  memory = h.1.0;
-  has = record { spelled = rw (sym e) s; valid = (v, h.0); read = rw (sym i) h.1.1.0 };
-  within = h.1.1.1;
-  stops = h.1.1.2;
-}
-unrun source text behind input (Turns count) e i s v h = record {
-  runs = refl;
-  input = input;
-  memory = h.1.0;
-  has = record { spelled = rw (sym e) s; valid = (v, h.0); read = rw (sym i) h.1.1.0 };
-  counted = h.1.1.1;
-  over = h.1.1.2;
-}
-unrun source text behind input Memory e i s v h = tt
-unrun source text behind input Done e i s v h = h
-unrun source text behind input Words e i s v h = h
-unrun source text behind input ReadFault e i s v h = h
-unrun source text behind input TooLong e i s v h = h
-unrun source text behind input (Text line column) e i s v h = absurd h
-unrun source text behind input Unbuilt e i s v h = absurd h
-unrun source text behind input WriteFault e i s v h = h
-
--- what a command writes of the parts of a source, it writes of the source
-pub checked : (source text output : List ℕ) (input : Module) → text ≡ text_part source → Spells text input → IsValid input → output ≡ spelling input → IsOutput Check source output
-checked source text output input e s v w = record { input = input; spelled = rw (sym e) s; valid = v; writes = w }
-
-pub staged : (options : StageOptions) (source text output : List ℕ) (input : Module) → length text ≤ 4194304 → text ≡ text_part source → Spells text input → IsValid input → Stages input output → IsOutput (Stage options) source output
-staged options source text output input short e s v w = record {
-  input = input;
-  spelled = rw (sym e) s;
-  valid = (v, w.0);
-  writes = (w.1, output_spells text output input (omega (arith, short)) s w.1);
-}
-
-pub ran : (source text behind output : List ℕ) (input : Module) → text ≡ text_part source → behind ≡ image_part source → Spells text input → IsValid input → Runs input behind output → IsOutput Plain source output
-ran source text behind output input e i s v w = record { input = input; spelled = rw (sym e) s; valid = (v, w.0); writes = rw (sym i) w.1 }
+    formed : (outcome : Outcome) → OfFirstForm input (Gives (IsStageOutput input)) outcome → OfFirstForm input (Gives (λ output. IsStageOutput input output × SpellsStaged input output)) outcome
+    formed outcome (inl k) = inl k
+    formed outcome (inr k) = inr (k.0, (k.1.0, given outcome k.1.1))

@@ -5,12 +5,10 @@ use Rattle.command_words.specs.declared.options.Value.{Value}
 use Rattle.command_words.specs.declared.options.Value.TheVariants.{Flag, Number}
 use Rattle.command_words.specs.Options.{is_there, Gives}
 use Rattle.command_words.specs.Values.{flag_at, integer_at, natural_at, byte_at, AllFit}
-use Rattle.affine_driver.specs.declared.command.BothOptions.{BothOptions}
 use Rattle.affine_driver.specs.declared.command.Command.{Command}
 use Rattle.affine_driver.specs.declared.command.Command.TheVariants as command
 use Rattle.affine_driver.specs.declared.command.FirstWord.{FirstWord}
 use Rattle.affine_driver.specs.declared.command.FirstWord.TheVariants as first
-use Rattle.affine_driver.specs.declared.command.OrderOptions.{OrderOptions}
 use Rattle.affine_driver.specs.declared.command.RunOptions.{RunOptions}
 use Rattle.affine_driver.specs.declared.command.StageOptions.{StageOptions}
 use Rattle.affine_driver.specs.Table.{word_of, name_of, standing_of, options_of}

@@ -4,8 +4,8 @@
 -- all that it had; what went out is the command's output of these bytes, whole at `Done` and a proper part of it at `WriteFault`, and
 -- every other ending has its reason in the bytes, or is a fault of the source, its length or want of memory (`Answers`). The bytes
 -- decide: no other refusal has its reason, and where the source has what the command asks for, the output was built (`IsExact`).
--- The output of `stage` is the text of a valid module that runs as the source's module does, and that of `plain` is the memory which
--- its direct meaning leaves (`Output`).
+-- What each command demands and writes is one table (`Behaviour`): the output of `stage` is the text of a valid module that runs as
+-- the source's module does, and that of `plain` is the memory which its direct meaning leaves.
 use Rattle.std.specs.Prelude.{ℕ, List, Option}
 use Rattle.affine_driver.specs.declared.command.Command.{Command}
 use Rattle.affine_driver.specs.declared.ending.Ending.{Ending}

@@ -1,6 +1,8 @@
+pub mod Behaviour
 pub mod Command
 pub mod Laws
 pub mod Message
+pub mod Outcome
 pub mod Output
 pub mod Reading
 pub mod Refusals

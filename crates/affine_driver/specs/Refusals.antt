@@ -1,157 +1,89 @@
--- Why a source is refused under a command.
-use Rattle.std.specs.Prelude.{◌≡◌, ◌⊎◌, ℕ, ◌<◌, ◌≤◌, List, Some, None}
-use Rattle.affine_ast.specs.declared.image.Image as ast
+-- Why a source is refused.
+use Rattle.std.specs.Prelude.{◌≡◌, ◌⊎◌, ℕ, ◌<◌, ◌^◌, List, Some}
 use Rattle.affine_ast.specs.declared.module.Module.{Module}
-use Rattle.affine_ast.specs.Validity.{first_broken, IsValid}
+use Rattle.affine_ast.specs.Validity.{first_broken}
 use Rattle.affine_ast.specs.PlainLimits.{plain_fault}
-use Rattle.affine_grammar.specs.Spelling.{Spells, IsRefused}
+use Rattle.affine_grammar.specs.Spelling as grammar
+use Rattle.affine_text.specs.declared.fault.ParseFault.{ParseFault}
+use Rattle.affine_text.specs.declared.fault.ParseFault.TheVariants as parser
+use Rattle.affine_verify.specs.declared.fault.VerifyFault.{VerifyFault}
+use Rattle.affine_verify.specs.declared.fault.VerifyFault.TheVariants as rules
+use Rattle.bus_model.specs.declared.step.Verdict.{Verdict}
 use Rattle.bus_model.specs.declared.step.FaultKind.{FaultKind}
 use Rattle.bus_model.specs.declared.step.Verdict.TheVariants as verdict
-use Rattle.direct_meaning.specs.Direct.{plain, verdict_of}
 use Rattle.direct_meaning.specs.Work.{work}
 use Rattle.copy_emit.specs.Template.{FirstLoop}
 use Rattle.first_path.specs.Form.{IsOfFirstForm}
+use Rattle.mem_image.specs.declared.parse.ImageFault.{ImageFault}
+use Rattle.mem_image.specs.declared.parse.ImageFault.TheVariants as image_fault
 use Rattle.mem_image.specs.Images as image
-use Rattle.source_parts.specs.Parts.{text_part, image_part}
-use Rattle.affine_driver.specs.declared.command.Command.{Command}
-use Rattle.affine_driver.specs.declared.command.Command.TheVariants.{Check, Stage, Plain}
 use Rattle.affine_driver.specs.declared.ending.Ending.{Ending}
-use Rattle.affine_driver.specs.declared.ending.Ending.TheVariants.{Done, Words, ReadFault, TooLong, Text, Invalid, Image, Fault, Unbuilt, WriteFault, Memory, Turns}
-use Rattle.affine_driver.specs.Output.{work_limit, IsStageOutput, IsPlainOutput, IsPlainValid}
+use Rattle.affine_driver.specs.declared.ending.Ending.TheVariants as ending
+use Rattle.affine_driver.specs.declared.refusal.Refusal.{Refusal}
+use Rattle.affine_driver.specs.declared.refusal.Refusal.TheVariants.{Text, Invalid, Image, Turns, Fault, Unbuilt, Memory}
 
--- ---- A source under a command
+-- the ending at which a call refuses the source so
+abbrev pub ending_of : Refusal → Ending
+ending_of (Text line column) = ending.Text line column
+ending_of (Invalid line rule) = ending.Invalid line rule
+ending_of (Image line rule) = ending.Image line rule
+ending_of (Turns count) = ending.Turns count
+ending_of (Fault kind) = ending.Fault kind
+ending_of Unbuilt = ending.Unbuilt
+ending_of Memory = ending.Memory
 
--- the command asks for V13: it stages the module or runs it directly
-abbrev pub AsksPlain : Command → Type 0
-AsksPlain Check = ⊥
-AsksPlain (Stage options) = Unit {0}
-AsksPlain Plain = Unit {0}
-AsksPlain unbuilt = ⊥
+-- ---- Each refusal and its reason
 
-abbrev pub IsStage : Command → Type 0
-IsStage (Stage options) = Unit {0}
-IsStage other = ⊥
+-- the text spells no module, and this is the first token that can't stand where it stands
+abbrev pub SpellsNone : List ℕ → Refusal → Type 0
+SpellsNone text refusal = (line : ℕ) × ((column : ℕ) × (grammar.IsRefused text line column × (refusal ≡ Text line column)))
 
--- The module breaks a rule, first at this line: the first rule of V1 to V12, or, where it meets these and the command asks for
--- it, V13.
-abbrev pub IsBroken : Command → Module → ℕ → ℕ → Type 0
-IsBroken command input line rule = (first_broken input ≡ Some (line, rule)) ⊎ (AsksPlain command × IsValid input × (plain_fault input ≡ Some line) × (rule ≡ 13))
+-- the module breaks one of V1 to V12, and this is the first line that breaks one, with the lowest that it breaks
+abbrev pub BreaksRule : Module → Refusal → Type 0
+BreaksRule input refusal = (line : ℕ) × ((rule : ℕ) × ((first_broken input ≡ Some (line, rule)) × (refusal ≡ Invalid line rule)))
 
--- the module that the text spells breaks a rule
-pub record IsInvalid (command : Command) (source : List ℕ) (line rule : ℕ) : Type 0 where
-  pub input : Module
-  pub spelled : Spells (text_part source) input
-  pub broken : IsBroken command input line rule
+-- the text spells no module, or one that breaks a rule of V1 to V12
+abbrev pub IsNotRead : List ℕ → Refusal → Type 0
+IsNotRead text refusal = SpellsNone text refusal ⊎ ((input : Module) × (grammar.Spells text input × BreaksRule input refusal))
 
--- the valid module that the text spells isn't of the first form, so it isn't staged
-pub record IsUnbuilt (command : Command) (source : List ℕ) : Type 0 where
-  pub stages : IsStage command
-  pub input : Module
-  pub spelled : Spells (text_part source) input
-  pub valid : IsPlainValid input
-  pub other : (l : FirstLoop) → IsOfFirstForm input l → ⊥
+-- the module breaks V13, first at this line
+abbrev pub BreaksLimits : Module → Refusal → Type 0
+BreaksLimits input refusal = (line : ℕ) × ((plain_fault input ≡ Some line) × (refusal ≡ Invalid line 13))
 
--- the image breaks a rule first at this line, for the valid module that is to be run
-pub record IsMisread (command : Command) (source : List ℕ) (line rule : ℕ) : Type 0 where
-  pub runs : command ≡ Plain
-  pub input : Module
-  pub spelled : Spells (text_part source) input
-  pub valid : IsPlainValid input
-  pub broken : image.IsFirstBroken (image_part source) input line rule
+-- the module isn't of the first form, so it isn't staged
+abbrev pub IsOtherForm : Module → Refusal → Type 0
+IsOtherForm input refusal = ((l : FirstLoop) → IsOfFirstForm input l → ⊥) × (refusal ≡ Unbuilt)
 
--- the source has this valid module and this memory, which fits it
-pub record Has (source : List ℕ) (input : Module) (memory : ast.Image) : Type 0 where
-  pub spelled : Spells (text_part source) input
-  pub valid : IsPlainValid input
-  pub read : image.Spells (image_part source) input memory
+-- the text spells no image of the module, and this is the first line that breaks a rule, with the lowest that it breaks
+abbrev pub SpellsNoImage : List ℕ → Module → Refusal → Type 0
+SpellsNoImage text input refusal = (line : ℕ) × ((rule : ℕ) × (image.IsFirstBroken text input line rule × (refusal ≡ Image line rule)))
 
--- the module that is to be run has this work, which passes the limit
-pub record IsTooMuch (command : Command) (source : List ℕ) (count : ℕ) : Type 0 where
-  pub runs : command ≡ Plain
-  pub input : Module
-  pub memory : ast.Image
-  pub has : Has source input memory
-  pub counted : count ≡ work input
-  pub over : work_limit < count
+-- the most work of a module that is run
+abbrev pub work_limit : ℕ
+work_limit = 2 ^ 48
 
--- the run of the module stops at this fault, by the direct meaning
-pub record IsFaulty (command : Command) (source : List ℕ) (kind : FaultKind) : Type 0 where
-  pub runs : command ≡ Plain
-  pub input : Module
-  pub memory : ast.Image
-  pub has : Has source input memory
-  pub within : work input ≤ work_limit
-  pub stops : verdict_of (plain input memory) ≡ verdict.Fault kind
+-- the work of the module passes the limit
+abbrev pub IsTooMuch : Module → Refusal → Type 0
+IsTooMuch input refusal = (work_limit < work input) × (refusal ≡ Turns (work input))
 
--- The ending refuses this source under this command: its text spells no module, and this is the first token that can't stand
--- where it stands; or it spells one that breaks a rule, or one that isn't built; or its image breaks a rule, the work passes the
--- limit, or the run stops at a fault; or memory ran out, of which nothing is said.
-abbrev pub Refuses : Command → List ℕ → Ending → Type 0
-Refuses command source (Text line column) = IsRefused (text_part source) line column
-Refuses command source (Invalid line rule) = IsInvalid command source line rule
-Refuses command source (Image line rule) = IsMisread command source line rule
-Refuses command source (Turns count) = IsTooMuch command source count
-Refuses command source (Fault kind) = IsFaulty command source kind
-Refuses command source Unbuilt = IsUnbuilt command source
-Refuses command source Memory = Unit {0}
-Refuses command source Done = ⊥
-Refuses command source Words = ⊥
-Refuses command source ReadFault = ⊥
-Refuses command source TooLong = ⊥
-Refuses command source WriteFault = ⊥
+-- the run stops at this fault
+abbrev pub StopsAt : Verdict → Refusal → Type 0
+StopsAt run refusal = (kind : FaultKind) × ((run ≡ verdict.Fault kind) × (refusal ≡ Fault kind))
 
--- ---- Its parts
+-- the refusal has its reason, or memory ran out, of which nothing is said
+abbrev pub OrMemory : (Refusal → Type 0) → Refusal → Type 0
+OrMemory Reason refusal = (refusal ≡ Memory) ⊎ Reason refusal
 
--- the ending refuses this text under every command: it spells no module, or one that breaks one of V1 to V12
-abbrev pub IsNotRead : List ℕ → Ending → Type 0
-IsNotRead text (Text line column) = IsRefused text line column
-IsNotRead text (Invalid line rule) = (input : Module) × (Spells text input × (first_broken input ≡ Some (line, rule)))
-IsNotRead text Memory = Unit {0}
-IsNotRead text Done = ⊥
-IsNotRead text Words = ⊥
-IsNotRead text ReadFault = ⊥
-IsNotRead text TooLong = ⊥
-IsNotRead text (Image line rule) = ⊥
-IsNotRead text (Fault kind) = ⊥
-IsNotRead text Unbuilt = ⊥
-IsNotRead text WriteFault = ⊥
-IsNotRead text (Turns count) = ⊥
+-- ---- The errors of other crates as refusals
 
--- this is what `stage` writes of the module, which meets V13
-abbrev pub Stages : Module → List ℕ → Type 0
-Stages input output = (plain_fault input ≡ None) × IsStageOutput input output
+abbrev pub of_parser : ParseFault → Refusal
+of_parser (parser.Text line column) = Text line column
+of_parser parser.Memory = Memory
 
--- `stage` refuses the module: it breaks V13, or it isn't of the first form
-abbrev pub IsNotStaged : Module → Ending → Type 0
-IsNotStaged input (Invalid line rule) = (plain_fault input ≡ Some line) × (rule ≡ 13)
-IsNotStaged input Unbuilt = (plain_fault input ≡ None) × ((l : FirstLoop) → IsOfFirstForm input l → ⊥)
-IsNotStaged input Memory = Unit {0}
-IsNotStaged input Done = ⊥
-IsNotStaged input Words = ⊥
-IsNotStaged input ReadFault = ⊥
-IsNotStaged input TooLong = ⊥
-IsNotStaged input (Text line column) = ⊥
-IsNotStaged input (Image line rule) = ⊥
-IsNotStaged input (Fault kind) = ⊥
-IsNotStaged input WriteFault = ⊥
-IsNotStaged input (Turns count) = ⊥
+abbrev pub of_rules : VerifyFault → Refusal
+of_rules (rules.Invalid line rule) = Invalid line rule
+of_rules rules.Memory = Memory
 
--- this is what `plain` writes of the module and the text of an image
-abbrev pub Runs : Module → List ℕ → List ℕ → Type 0
-Runs input text output = (plain_fault input ≡ None) × IsPlainOutput input text output
-
--- `plain` refuses the module and the text of an image: the module breaks V13, the text a rule of images, the work passes the
--- limit, or the run stops at a fault
-abbrev pub IsNotRun : Module → List ℕ → Ending → Type 0
-IsNotRun input text (Invalid line rule) = (plain_fault input ≡ Some line) × (rule ≡ 13)
-IsNotRun input text (Image line rule) = (plain_fault input ≡ None) × image.IsFirstBroken text input line rule
-IsNotRun input text (Turns count) = (plain_fault input ≡ None) × ((memory : ast.Image) × (image.Spells text input memory × (count ≡ work input) × (work_limit < count)))
-IsNotRun input text (Fault kind) = (plain_fault input ≡ None) × ((memory : ast.Image) × (image.Spells text input memory × (work input ≤ work_limit) × (verdict_of (plain input memory) ≡ verdict.Fault kind)))
-IsNotRun input text Memory = Unit {0}
-IsNotRun input text Done = ⊥
-IsNotRun input text Words = ⊥
-IsNotRun input text ReadFault = ⊥
-IsNotRun input text TooLong = ⊥
-IsNotRun input text (Text line column) = ⊥
-IsNotRun input text Unbuilt = ⊥
-IsNotRun input text WriteFault = ⊥
+abbrev pub of_image : ImageFault → Refusal
+of_image (image_fault.Image line rule) = Image line rule
+of_image image_fault.Memory = Memory

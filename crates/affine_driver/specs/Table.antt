@@ -1,5 +1,5 @@
 -- The commands of the program: names, options, and whether the program has them.
-use Rattle.std.specs.Prelude.{◌≡◌, ℕ, pos, neg_ℤ, List, [], ◌∷◌, Option, Some, None, codes}
+use Rattle.std.specs.Prelude.{◌≡◌, ℕ, pos, neg_ℤ, List, [], ◌∷◌, Some, None, codes}
 use Rattle.command_words.specs.declared.options.Standing.{Standing}
 use Rattle.command_words.specs.declared.options.Takes.{Takes}
 use Rattle.command_words.specs.declared.options.Takes.TheVariants.{Flag, Number}

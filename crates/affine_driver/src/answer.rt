@@ -1,65 +1,57 @@
-// What a command writes of a source, or the ending that refuses it.
+// What a command writes of a source, or the refusal that it comes to.
 ghost use Rattle.std.specs.Prelude.{◌≡◌, ◌≤◌, length, MatchResult};
+ghost use Rattle.affine_ast.specs.Spelling.{spelling};
 ghost use Rattle.affine_ast.specs.Validity.{IsValid};
 ghost use Rattle.affine_grammar.specs.Spelling.{Spells};
+ghost use Rattle.affine_driver.specs.Behaviour.{ComesTo};
 ghost use Rattle.affine_driver.specs.Command.{IsAllowed};
-ghost use Rattle.affine_driver.specs.Output.{IsOutput};
-ghost use Rattle.affine_driver.specs.Refusals.{Refuses, IsNotRead};
+ghost use Rattle.affine_driver.specs.Outcome.{Answered, Gives};
+ghost use Rattle.affine_driver.specs.Refusals.{IsNotRead, OrMemory};
 
 use crate::command::Command;
-use crate::ending::Ending;
 use crate::limits::SOURCE_LIMIT;
 use crate::plain::plain_output;
+use crate::refusal::Refusal;
 use crate::stage::staged;
 use affine_ast::Verified;
 use affine_print::print;
-use affine_text::{ParseFault, parse};
-use affine_verify::{VerifyFault, verify};
+use affine_text::parse;
+use affine_verify::verify;
 use source_parts::split;
-use std::alloc::{AllocError, Global};
+use std::alloc::Global;
 
 /// The valid module that a text spells.
-fn read(alloc: Global, text: &[u8]) -> Result<Verified, Ending>
+#[tactic(auto, using(crate::proofs::Refusals::no_text, crate::proofs::Refusals::rule_broken))]
+fn read(alloc: Global, text: &[u8]) -> Result<Verified, Refusal>
     requires { length text.now ≤ SOURCE_LIMIT }
-    ensures { MatchResult result (λ verified. Spells text.now verified.inner × IsValid verified.inner) (λ ending. IsNotRead text.now ending) }
+    ensures { MatchResult result (λ verified. Spells text.now verified.inner × IsValid verified.inner) (λ refusal. OrMemory (IsNotRead text.now) refusal) }
 {
-    let module = match parse(alloc, text) {
-        Ok(module) => module,
-        Err(ParseFault::Text { line, column }) => return Err(Ending::Text { line, column }),
-        Err(ParseFault::Memory) => return Err(Ending::Memory),
-    };
-    match verify(alloc, module) {
-        Ok(verified) => Ok(verified),
-        Err(VerifyFault::Invalid { line, rule }) => Err(Ending::Invalid { line, rule }),
-        Err(VerifyFault::Memory) => Err(Ending::Memory),
-    }
+    let module = parse(alloc, text)?;
+    let verified = verify(alloc, module)?;
+    Ok(verified)
 }
 
-/// What the command writes of a source, or the ending that refuses it.
-#[tactic(auto, using(crate::proofs::Refusals::unread, crate::proofs::Refusals::unstaged, crate::proofs::Refusals::unrun, crate::proofs::Refusals::checked, crate::proofs::Refusals::staged, crate::proofs::Refusals::ran))]
-pub(crate) fn answer_of(alloc: Global, command: Command, source: &[u8]) -> Result<Vec<u8>, Ending>
+/// The module's printed spelling.
+fn checked(alloc: Global, verified: &Verified) -> Result<Vec<u8>, Refusal>
+    ensures { Answered result (λ output. output.items) (Gives (λ output. output ≡ spelling verified.now.inner)) }
+{
+    let output = print(alloc, verified.module())?;
+    Ok(output)
+}
+
+/// What the command writes of a source, or the refusal that it comes to.
+#[tactic(auto, using(crate::proofs::Refusals::unread))]
+pub(crate) fn answer_of(alloc: Global, command: Command, source: &[u8]) -> Result<Vec<u8>, Refusal>
     requires allowed { IsAllowed command }
     requires short { length source.now ≤ SOURCE_LIMIT }
-    ensures { MatchResult result (λ output. IsOutput command source.now output.items) (λ ending. Refuses command source.now ending) }
+    ensures { Answered result (λ output. output.items) (ComesTo command source.now) }
 {
     let parts = split(source);
-    let verified = match read(alloc, parts.text) {
-        Ok(verified) => verified,
-        Err(ending) => return Err(ending),
-    };
+    let verified = read(alloc, parts.text)?;
     match command {
-        Command::Check => match print(alloc, verified.module()) {
-            Ok(output) => Ok(output),
-            Err(AllocError) => Err(Ending::Memory),
-        },
-        Command::Stage(_) => match staged(alloc, &verified) {
-            Ok(output) => Ok(output),
-            Err(ending) => Err(ending),
-        },
-        Command::Plain => match plain_output(alloc, &verified, parts.image) {
-            Ok(output) => Ok(output),
-            Err(ending) => Err(ending),
-        },
+        Command::Check => checked(alloc, &verified),
+        Command::Stage(_) => staged(alloc, &verified),
+        Command::Plain => plain_output(alloc, &verified, parts.image),
         Command::Regions(_) => unreachable!(),
         Command::Run(_) => unreachable!(),
         Command::Order(_) => unreachable!(),

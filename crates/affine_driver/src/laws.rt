@@ -1,6 +1,4 @@
 // What the clauses of the top call come to, as laws.
-ghost use Rattle.affine_driver.specs.declared.command.Command.TheVariants.{Check, Plain, Stage};
-ghost use Rattle.affine_driver.specs.declared.command.StageOptions.{StageOptions};
 ghost use Rattle.affine_driver.specs.Laws.{EndingsAreExact, HasOneOutput};
 ghost use Rattle.affine_driver.specs.Table.{IsAsWritten};
 
@@ -11,9 +9,7 @@ use mem_image::image_texts_are_exact;
 /// reasons at once, and where no refusal has its reason, the output is built, and is the only one.
 pub fn endings_are_exact()
     ensures exact { EndingsAreExact }
-    ensures check_output { HasOneOutput Check }
-    ensures stage_output { (options : StageOptions) → HasOneOutput (Stage options) }
-    ensures plain_output { HasOneOutput Plain }
+    ensures one_output { HasOneOutput }
 {
     texts_are_read_exactly();
     image_texts_are_exact();

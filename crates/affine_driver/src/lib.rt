@@ -8,10 +8,12 @@
 
 mod answer;
 mod command;
+mod demands;
 mod ending;
 mod laws;
 mod limits;
 mod plain;
+mod refusal;
 mod report;
 mod stage;
 mod table;
@@ -23,4 +25,5 @@ pub use command::{
 pub use ending::Ending;
 pub use laws::{endings_are_exact, table_is_as_written};
 pub use limits::{SOURCE_LIMIT, WORK_LIMIT};
+pub use refusal::Refusal;
 pub use top::stage_main;

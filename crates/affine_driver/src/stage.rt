@@ -1,14 +1,16 @@
 // The command `stage`.
-ghost use Rattle.std.specs.Prelude.{◌≡◌, ◌++◌, None, IfOk, IfSome, IfNone, MatchResult};
+ghost use Rattle.std.specs.Prelude.{◌≡◌, ◌++◌, None, IfOk, IfSome, IfNone};
 ghost use Rattle.affine_ast.specs.PlainLimits.{plain_fault};
 ghost use Rattle.affine_ast.specs.Spelling.{spelling};
 ghost use Rattle.affine_ast.specs.Validity.{IsValid};
 ghost use Rattle.copy_emit.specs.Template.{FirstLoop};
 ghost use Rattle.first_path.specs.Form.{IsOfFirstForm};
+ghost use Rattle.affine_driver.specs.Behaviour.{Limited, OfFirstForm};
+ghost use Rattle.affine_driver.specs.Outcome.{Answered, Gives};
 ghost use Rattle.affine_driver.specs.Output.{report, IsStageOutput};
-ghost use Rattle.affine_driver.specs.Refusals.{IsNotStaged, Stages};
 
-use crate::ending::Ending;
+use crate::demands::meet_limits;
+use crate::refusal::Refusal;
 use crate::report::put_report;
 use affine_ast::{Module, Verified};
 use affine_print::print;
@@ -46,15 +48,12 @@ fn stage_output(alloc: Global, module: &Module) -> Result<Option<Vec<u8>>, Alloc
 }
 
 /// What `stage` writes of a valid module, or why it writes nothing.
-pub(crate) fn staged(alloc: Global, verified: &Verified) -> Result<Vec<u8>, Ending>
-    ensures { MatchResult result (λ output. Stages verified.now.inner output.items) (λ ending. IsNotStaged verified.now.inner ending) }
+pub(crate) fn staged(alloc: Global, verified: &Verified) -> Result<Vec<u8>, Refusal>
+    ensures { Answered result (λ output. output.items) (Limited verified.now.inner (OfFirstForm verified.now.inner (Gives (IsStageOutput verified.now.inner)))) }
 {
-    if let Some(line) = verified.plain_fault() {
-        return Err(Ending::Invalid { line, rule: 13 });
-    }
-    match stage_output(alloc, verified.module()) {
-        Ok(Some(output)) => Ok(output),
-        Ok(None) => Err(Ending::Unbuilt),
-        Err(AllocError) => Err(Ending::Memory),
+    meet_limits(verified)?;
+    match stage_output(alloc, verified.module())? {
+        Some(output) => Ok(output),
+        None => Err(Refusal::Unbuilt),
     }
 }

@@ -37,7 +37,7 @@ fn run_command<S: Source, K: Sink>(
     };
     let output = match answer_of(alloc, command, text.as_slice()) {
         Ok(output) => output,
-        Err(ending) => return ending,
+        Err(refusal) => return Ending::from(refusal),
     };
     match write_all(sink, output.as_slice()) {
         Ok(()) => Ending::Done,

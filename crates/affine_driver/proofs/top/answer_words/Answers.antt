@@ -1,5 +1,4 @@
-use Rattle.std.proofs.Common.{List, map, refl, subst, sym, ◌∙◌, ℕ}
-use Rattle.affine_driver.specs.declared.command.Command.{Command}
+use Rattle.std.proofs.Common.{refl, subst}
 use Rattle.affine_driver.specs.declared.limits.TheConstants.{SOURCE_LIMIT}
 use Rattle.affine_driver.specs.Reading.{Answers}
 use Rattle.affine_driver.proofs.Commands.{allowed, one_command, no_command}

@@ -1,0 +1,71 @@
+-- What each command makes of a source.
+use Rattle.std.specs.Prelude.{◌≡◌, ℕ, ◌≤◌, List, None}
+use Rattle.affine_ast.specs.declared.image.Image.{Image}
+use Rattle.affine_ast.specs.declared.module.Module.{Module}
+use Rattle.affine_ast.specs.PlainLimits.{plain_fault}
+use Rattle.affine_ast.specs.Spelling.{spelling}
+use Rattle.affine_ast.specs.Validity.{IsValid}
+use Rattle.affine_grammar.specs.Spelling as grammar
+use Rattle.bus_model.specs.declared.step.Verdict.{Verdict}
+use Rattle.bus_model.specs.declared.step.Verdict.TheVariants as verdict
+use Rattle.direct_meaning.specs.Direct.{plain, verdict_of}
+use Rattle.direct_meaning.specs.Work.{work}
+use Rattle.first_path.specs.Form.{IsOfFirstForm}
+use Rattle.mem_image.specs.Images as image
+use Rattle.source_parts.specs.Parts.{text_part, image_part}
+use Rattle.staged_texts.specs.Laws.{SpellsStaged}
+use Rattle.affine_driver.specs.declared.command.Command.{Command}
+use Rattle.affine_driver.specs.declared.command.Command.TheVariants.{Check, Stage, Plain}
+use Rattle.affine_driver.specs.declared.refusal.Refusal.{Refusal}
+use Rattle.affine_driver.specs.Outcome.{Outcome, Refused, Complete, Writes, Demands, Gives}
+use Rattle.affine_driver.specs.Output.{IsStageOutput, IsPlainOutput}
+use Rattle.affine_driver.specs.Refusals.{SpellsNone, BreaksRule, BreaksLimits, IsOtherForm, SpellsNoImage, work_limit, IsTooMuch, StopsAt}
+
+-- ---- Demands
+
+-- a text that spells a valid module
+abbrev pub Read : List ℕ → (Module → Outcome → Type 0) → Outcome → Type 0
+Read text Behind = Demands (SpellsNone text) (grammar.Spells text) (λ input. Demands (BreaksRule input) (λ (holds : Unit {0}). IsValid input) (λ holds. Behind input))
+
+-- a module that meets V13
+abbrev pub Limited : Module → (Outcome → Type 0) → Outcome → Type 0
+Limited input Behind = Demands (BreaksLimits input) (λ (holds : Unit {0}). plain_fault input ≡ None) (λ holds. Behind)
+
+-- a module of the first form
+abbrev pub OfFirstForm : Module → (Outcome → Type 0) → Outcome → Type 0
+OfFirstForm input Behind = Demands (IsOtherForm input) (IsOfFirstForm input) (λ looped. Behind)
+
+-- a run that ends: the text spells an image, whose memory fits the module, the module's work is within the limit, and the run from this
+-- memory, of which the verdict is given, comes to its end
+abbrev pub RunsToEnd : Module → List ℕ → (Image → Verdict) → (Image → Outcome → Type 0) → Outcome → Type 0
+RunsToEnd input text run Behind =
+    Demands (SpellsNoImage text input) (image.Spells text input) (λ memory.
+    Demands (IsTooMuch input) (λ (holds : Unit {0}). work input ≤ work_limit) (λ within.
+    Demands (StopsAt (run memory)) (λ (holds : Unit {0}). run memory ≡ verdict.End) (λ ends. Behind memory)))
+
+-- ---- Commands
+
+-- What a command makes of a valid module and the text of an image, one line a command: what it demands beyond the rules V1 to V12, in the
+-- order in which it is asked for, and what it writes. `check` writes the module's printed spelling, `stage` its output, which spells a
+-- valid module that runs as the module does, `plain` the printed image of the memory that the direct meaning leaves.
+abbrev pub Makes : Command → Module → List ℕ → Outcome → Type 0
+Makes Check input text outcome = Gives (λ output. output ≡ spelling input) outcome
+Makes (Stage options) input text outcome = Limited input (OfFirstForm input (Gives (λ output. IsStageOutput input output × SpellsStaged input output))) outcome
+Makes Plain input text outcome = Limited input (RunsToEnd input text (λ memory. verdict_of (plain input memory)) (λ memory. Gives (IsPlainOutput input memory))) outcome
+Makes unbuilt input text outcome = ⊥
+
+-- what a source comes to under a command: its text spells a valid module, of which, with its image, the command makes this
+abbrev pub ComesTo : Command → List ℕ → Outcome → Type 0
+ComesTo command source = Read (text_part source) (λ input. Makes command input (image_part source))
+
+-- the source is refused so under this command, for this reason in its bytes
+abbrev pub Refuses : Command → List ℕ → Refusal → Type 0
+Refuses command source refusal = ComesTo command source (Refused refusal)
+
+-- the source has all that the command demands
+abbrev pub Completes : Command → List ℕ → Type 0
+Completes command source = ComesTo command source Complete
+
+-- the output of a source under a command
+abbrev pub IsOutput : Command → List ℕ → List ℕ → Type 0
+IsOutput command source output = ComesTo command source (Writes output)
