@@ -3,7 +3,7 @@ use Rattle.std.specs.Prelude.{◌≡◌, ℕ, pos, neg_ℤ, List, [], ◌∷◌,
 use Rattle.command_words.specs.declared.options.Standing.{Standing}
 use Rattle.command_words.specs.declared.options.Takes.{Takes}
 use Rattle.command_words.specs.declared.options.Takes.TheVariants.{Flag, Number}
-use Rattle.command_words.specs.declared.options.Standing.TheVariants.{Built}
+use Rattle.command_words.specs.declared.options.Standing.TheVariants.{Built, Unbuilt}
 use Rattle.command_words.specs.Options.{OptionRule}
 use Rattle.affine_driver.specs.declared.command.Command.{Command}
 use Rattle.affine_driver.specs.declared.command.Command.TheVariants as command
@@ -11,6 +11,7 @@ use Rattle.affine_driver.specs.declared.command.FirstWord.{FirstWord}
 use Rattle.affine_driver.specs.declared.command.FirstWord.TheVariants as first
 use Rattle.affine_driver.specs.declared.table.TheConstants.{CHECK, REGIONS, REGIONS_DEPTH, STAGE, STAGE_DEPTH, STAGE_DMA, STAGE_DOUBLE, STAGE_BUFFERS, STAGE_CAPACITY, PLAIN, RUN, RUN_CAPACITY, RUN_FILLER, RUN_ENGINES, ORDER, ORDER_CAPACITY, ORDER_FILLER, ORDER_ENGINES, ORDER_PICK, BOTH, BOTH_DEPTH, BOTH_DMA, BOTH_DOUBLE, BOTH_BUFFERS, BOTH_CAPACITY, BOTH_FILLER, BOTH_ENGINES, SAMPLE, SAMPLE_NUMBER}
 use Rattle.affine_driver.specs.declared.table.TheConstants.{DEPTH, BUFFERS, CAPACITY, FILLER, ENGINES, PICK, NUMBER}
+use Rattle.affine_driver.specs.declared.limits.TheConstants.{SOURCE_LIMIT}
 
 -- an option that needs no flag
 abbrev pub alone : List ℕ → Takes → Standing → OptionRule
@@ -69,7 +70,8 @@ options_of first.Both =
     ∷ alone (codes "filler") FILLER BOTH_FILLER ∷ alone (codes "engines") ENGINES BOTH_ENGINES ∷ []
 options_of first.Sample = alone (codes "number") NUMBER SAMPLE_NUMBER ∷ []
 
--- the ranges of numbers, both ends counted, and their defaults; and the commands that the program has
+-- the ranges of numbers, both ends counted, and their defaults; the commands that the program has, and the options of `stage`
+-- that it hasn't; and the most bytes of a source
 pub record IsAsWritten : Type 0 where
   pub depth : DEPTH ≡ Number (pos 0) (pos 7) (pos 0)
   pub buffers : BUFFERS ≡ Number (pos 2) (pos 8) (pos 2)
@@ -81,3 +83,9 @@ pub record IsAsWritten : Type 0 where
   pub check : standing_of first.Check ≡ Built
   pub stage : standing_of first.Stage ≡ Built
   pub plain : standing_of first.Plain ≡ Built
+  pub stage_depth : STAGE_DEPTH ≡ Unbuilt
+  pub stage_dma : STAGE_DMA ≡ Unbuilt
+  pub stage_double : STAGE_DOUBLE ≡ Unbuilt
+  pub stage_buffers : STAGE_BUFFERS ≡ Unbuilt
+  pub stage_capacity : STAGE_CAPACITY ≡ Unbuilt
+  pub source : SOURCE_LIMIT ≡ 4194304

@@ -15,7 +15,8 @@ pub fn endings_are_exact()
     image_texts_are_exact();
 }
 
-/// The table of commands has these ranges and defaults, and these commands are built.
+/// The table of commands has these ranges and defaults, these commands are built, and these options of `stage` aren't; a source
+/// has so many bytes at most.
 pub fn table_is_as_written()
     ensures { IsAsWritten }
 {}

@@ -13,4 +13,10 @@ returns c = record {
   check = refl;
   stage = refl;
   plain = refl;
+  stage_depth = refl;
+  stage_dma = refl;
+  stage_double = refl;
+  stage_buffers = refl;
+  stage_capacity = refl;
+  source = refl;
 }
