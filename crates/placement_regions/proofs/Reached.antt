@@ -77,7 +77,7 @@ module _ (m : Name) (ty : MemrefType) (order first : ℕ) (spans : List Side) (d
       let k = then_passed (told body (in_loop v l u (counted a))) (λ t. told rest (with_totals t a)) t j.1 in
       let new = (loop_holds (counted a) v l u step j.0).new_name in (
         each_turn (lower_of e l) (upper_of e u) step p.2 (λ z. Each (ReachesBox m order first spans) body (knows e v z)) (λ z turn.
-        text_reaches body (way ++ ways.Round v l u step ∷ []) (in_loop v l u (counted a)) (knows e v z) k.0 k.1 p.3 (stands_along a.scope e (in_loop v l u (counted a)).scope (knows e v z) (kept_loop a v l u e z new) s) (i.1 z turn)),
+            text_reaches body (way ++ ways.Round v l u step ∷ []) (in_loop v l u (counted a)) (knows e v z) k.0 k.1 p.3 (stands_along a.scope e (in_loop v l u (counted a)).scope (knows e v z) (kept_loop a v l u e z new) s) (i.1 z turn)),
         text_reaches rest (way ++ ways.Past body ∷ []) (with_totals k.0 a) (behind body e) t k.2 p.4 (record { scope = s.scope; home = s.home }) i.2,
       )
   text_reaches (Branch line set ns first_ has other rest) way a e t h p s i =
@@ -104,6 +104,6 @@ module _ (m : Name) (ty : MemrefType) (order first : ℕ) (spans : List Side) (d
       let k = then_passed (told body (in_loop v l u (counted a))) (λ t. told rest (with_totals t a)) t j.1 in
       let new = (loop_holds (counted a) v l u step j.0).new_name in (
         each_turn (lower_of e l) (upper_of e u) step p.2 (λ z. Each (ReachesBox m order first spans) body (knows e v z)) (λ z turn.
-        text_reaches body (ways.Round v l u step ∷ []) (in_loop v l u (counted a)) (knows e v z) k.0 k.1 p.3 (stands_along a.scope e (in_loop v l u (counted a)).scope (knows e v z) (kept_loop a v l u e z new) s) (i.1 z turn)),
+            text_reaches body (ways.Round v l u step ∷ []) (in_loop v l u (counted a)) (knows e v z) k.0 k.1 p.3 (stands_along a.scope e (in_loop v l u (counted a)).scope (knows e v z) (kept_loop a v l u e z new) s) (i.1 z turn)),
         tt,
       )
