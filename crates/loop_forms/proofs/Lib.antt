@@ -1,3 +1,4 @@
 pub mod Cut
 pub mod Values
 pub mod Cuts
+pub mod Behind

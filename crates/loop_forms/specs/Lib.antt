@@ -1,3 +1,4 @@
+pub mod Stepped
 pub mod Sums
 pub mod Split
 pub mod Laws

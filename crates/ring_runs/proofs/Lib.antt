@@ -1,0 +1,11 @@
+pub mod Ring
+pub mod Cut
+pub mod Places
+pub mod Lists
+pub mod Facts
+pub mod Lates
+pub mod AllLates
+pub mod Template
+pub mod Beside
+pub mod Extras
+pub mod Sums

@@ -1,0 +1,4 @@
+pub mod Example
+pub mod Outward
+pub mod Mixed
+pub mod Numbers

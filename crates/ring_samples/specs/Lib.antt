@@ -1,0 +1,5 @@
+pub mod Example
+pub mod Outward
+pub mod Mixed
+pub mod Worked
+pub mod Law
