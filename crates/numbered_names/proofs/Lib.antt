@@ -1,0 +1,5 @@
+pub mod Owned
+pub mod Counts
+pub mod Apart
+pub mod Arguments
+pub mod Laws
