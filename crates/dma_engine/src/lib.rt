@@ -28,10 +28,10 @@ pub trait Gate {
     /// An engine has moved all elements of a tag's transfer, and is about to give it back.
     fn before_finish(&self, engine: u32, tag: u32);
 
-    /// The compute thread is about to store a slow word.
+    /// The compute thread is about to store a number, in slow memory or in a half.
     fn before_store(&self);
 
-    /// The compute thread has stored it.
+    /// The compute thread has stored it, or a fault kept it from that.
     fn after_store(&self);
 
     /// The compute thread is about to collect the transfer of a tag.

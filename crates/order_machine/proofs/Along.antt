@@ -1,6 +1,6 @@
 -- Along a run of the machine there is a state of the prompt meaning that it agrees with, from which each action reaches what there is.
-use Rattle.std.proofs.Common.{◌≡◌, ℕ, ℤ, zero, suc, ◌+◌, ◌<◌, ◌≤◌, Bool, true, false, List, [], ◌∷◌, ◌++◌, length, take, sym, refl, ap, ◌∙◌, subst, arith}
-use Rattle.std.specs.Prelude.{Option, Some, None}
+use Rattle.std.proofs.Common.{◌≡◌, ℕ, ℤ, suc, ◌+◌, ◌≤◌, List, [], ◌∷◌, ◌++◌, length, take, sym, refl, ap, ◌∙◌, subst, arith}
+use Rattle.std.specs.Prelude.{Some, None}
 use Rattle.affine_ast.specs.declared.image.Image.{Image}
 use Rattle.bus_model.specs.declared.step.FaultKind.{FaultKind}
 use Rattle.bus_model.specs.declared.step.Step.{Step}
@@ -14,17 +14,17 @@ use Rattle.prompt_meaning.specs.Prompt.{acts, prompt_step, first_device}
 use Rattle.prompt_laws.specs.Along.{Along}
 use Rattle.prompt_laws.specs.Reaches.{CanAct}
 use Rattle.prompt_laws.specs.Rooms.{Room}
-use Rattle.order_meaning.specs.Machine.{Core, Machine, is_held_up, CanCompute, Enabled, first_machine, end_of, settled, act_on, compute_step, after_step}
+use Rattle.order_meaning.specs.Machine.{Core, Machine, CanCompute, Enabled, first_machine, end_of, settled, act_on, compute_step, after_step}
 use Rattle.order_meaning.specs.Run.{after_steps, IsRun, computes, all_left}
 use Rattle.order_meaning.specs.Agree.{Agree}
-use Rattle.order_meaning.specs.Orderly.{Rooms, Orderly}
-use Rattle.order_meaning.specs.Law.{first, promptly, promptly_after, OrdersAgree}
+use Rattle.order_meaning.specs.Orderly.{Orderly}
+use Rattle.order_meaning.specs.Law.{promptly}
 use Rattle.order_meaning.proofs.Flights.{none_some}
 use Rattle.order_meaning.proofs.Actions.{same_act}
 use Rattle.order_meaning.proofs.AllOrders.{all_orders}
 use Rattle.order_meaning.proofs.Numbers.{total}
 use Rattle.order_meaning.proofs.Roomy.{Roomy}
-use Rattle.order_meaning.proofs.Runs.{Going, Goes, Stands, Ran, ran}
+use Rattle.order_meaning.proofs.Runs.{Going, Goes, Stands, ran}
 
 module _ (filler : ℤ) (capacity slow : ℕ) (o : Outcome Device) (rooms : List Room) where
   -- what is left reaches what there is, where there is no verdict

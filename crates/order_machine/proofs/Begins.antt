@@ -1,19 +1,17 @@
 -- A machine before its first step.
-use Rattle.std.proofs.Common.{◌≡◌, ℕ, ℤ, List, [], refl, sym, ap, ◌∙◌, subst}
-use Rattle.std.specs.Prelude.{Option, Some, None}
+use Rattle.std.proofs.Common.{◌≡◌, ℤ, List, [], refl, sym, ap, ◌∙◌, subst}
 use Rattle.affine_ast.specs.declared.module.Arg.{Arg}
 use Rattle.affine_ast.specs.Nest.{Nest, nest}
 use Rattle.direct_meaning.specs.Action.{Action}
 use Rattle.direct_meaning.specs.Actions.{actions}
 use Rattle.direct_meaning.specs.Direct.{first_state}
 use Rattle.direct_meaning.specs.Memory.{module_actions, start_env}
-use Rattle.nest_walk.specs.Walked.{Walked}
-use Rattle.prompt_laws.specs.Rooms.{rooms_in, module_rooms}
+use Rattle.prompt_laws.specs.Rooms.{rooms_in}
 use Rattle.order_meaning.specs.Machine.{Core, end_of}
 use Rattle.order_memory.specs.declared.memory.Memory.{Memory}
 use Rattle.order_memory.specs.Tied.{Tied, IsFirst}
 use Rattle.order_machine.specs.declared.machine.Machine.{Machine}
-use Rattle.order_machine.specs.Standing.{Setting, IsSound, Stood, IsAt, NextIn, left_of, first_of}
+use Rattle.order_machine.specs.Standing.{Setting, IsSound, IsAt, NextIn, left_of, first_of}
 
 module _ (s : Setting) (sound : IsSound s) (n : Nest) (args : List Arg) (body : n ≡ nest s.module_.body) (arguments : args ≡ s.module_.args) (symbols : List ℤ) (numbers : symbols ≡ s.memory.symbols) where
   first_is : (slow : List ℤ) → slow ≡ (first_state s.memory).slow → IsFirst slow (first_of s).core

@@ -1,35 +1,30 @@
 -- Runs whose steps are chosen by numbers.
-use Rattle.std.proofs.Common.{◌≡◌, ℕ, ℤ, zero, suc, ◌+◌, ◌*◌, ◌/◌, ◌%◌, ◌-◌, ◌<◌, ◌≤◌, ◌^◌, Bool, true, false, List, [], ◌∷◌, ◌++◌, length, sym, refl, ap, ◌∙◌, subst, arith, Result, Ok, Err}
-use Rattle.std.specs.Prelude.{Option, Some, None, slice_get}
+use Rattle.std.proofs.Common.{◌≡◌, ℕ, ℤ, ◌+◌, ◌*◌, ◌/◌, ◌%◌, ◌-◌, ◌<◌, ◌≤◌, ◌^◌, List, [], ◌∷◌, ◌++◌, length, sym, refl, ap, ◌∙◌, subst, arith, Result, Ok, Err}
+use Rattle.std.specs.Prelude.{Some, None, slice_get}
 use Rattle.std.proofs.Math.Nat.{mod-add-mod, mod-lt}
 use Rattle.std.proofs.lemmas.List.{length-append}
 use Rattle.bus_model.specs.declared.step.FaultKind.{FaultKind}
 use Rattle.bus_model.specs.declared.step.Step.{Step}
 use Rattle.bus_model.specs.declared.step.Verdict.{Verdict}
 use Rattle.bus_model.specs.declared.step.Verdict.TheVariants as verdict
-use Rattle.direct_meaning.specs.Action.{Action}
-use Rattle.direct_meaning.specs.Direct.{Outcome, End, Fault, verdict_of, state_of}
+use Rattle.direct_meaning.specs.Direct.{Outcome, End, Fault, verdict_of}
 use Rattle.direct_meaning.specs.Memory.{Fits, module_actions}
 use Rattle.affine_ast.specs.declared.image.Image.{Image}
-use Rattle.affine_ast.specs.declared.module.Module.{Module}
 use Rattle.prompt_meaning.specs.Device.{Device}
 use Rattle.prompt_meaning.specs.Prompt.{prompt, prompt_verdict, prompt_slow}
-use Rattle.prompt_laws.specs.Law.{RunsPromptly}
 use Rattle.prompt_laws.proofs.Conclusions.{runs_promptly}
 use Rattle.run_laws.specs.StaysFitting.{with_slow}
 use Rattle.order_laws.proofs.Valid.{valid_orders}
 use Rattle.order_meaning.specs.Machine.{Machine, Enabled, after_step}
-use Rattle.order_meaning.specs.Run.{after_steps, IsRun, IsMaximal}
+use Rattle.order_meaning.specs.Run.{after_steps, IsMaximal}
 use Rattle.order_meaning.specs.Law.{promptly, OrdersAgree}
-use Rattle.order_meaning.specs.Listed.{Has, IsListed}
+use Rattle.order_meaning.specs.Listed.{IsListed}
 use Rattle.order_meaning.proofs.Flights.{none_some, same_some}
-use Rattle.order_meaning.proofs.Listed.{lists_enabled, lists_one}
+use Rattle.order_meaning.proofs.Listed.{lists_enabled}
 use Rattle.order_machine.specs.declared.machine.Machine.{Machine as Code}
-use Rattle.order_machine.specs.declared.orders.Ordered.{Ordered}
-use Rattle.order_machine.specs.Standing.{Setting, IsSound, IsAt, Steps, first_of, after}
-use Rattle.order_machine.specs.Orders.{next_number, number_after, total, Chosen, Picks, Picked, Chooses, RunBy, RunsOrder, setting}
-use Rattle.order_machine.proofs.Along.{after_both}
-use Rattle.order_machine.proofs.Derived.{derived, engines_are, few_steps, some_step}
+use Rattle.order_machine.specs.Standing.{Setting, IsAt, Steps, first_of, after}
+use Rattle.order_machine.specs.Orders.{next_number, number_after, total, Chosen, Picks, Picked, Chooses, RunBy, RunsOrder}
+use Rattle.order_machine.proofs.Derived.{derived, few_steps, some_step}
 
 -- ---- numbers
 
@@ -97,12 +92,13 @@ module _ (s : Setting) (steps : List Step) (m : Code) (at : IsAt s steps m) (goi
 
 -- ---- the whole run
 
-module _ (s : Setting) (pick : ℕ) (v : Verdict) (trace : ℕ) (m : Code) (r : RunBy s pick v trace m) where
-  most : IsMaximal s.filler s.capacity (first_of s) r.steps
-  most = record { run = r.at.stood.run; last = λ step en. none_some (after s r.steps).verdict v en.going r.verdict_is }
+-- a run that ended
+module _ (s : Setting) (steps : List Step) (v : Verdict) (m : Code) (at : IsAt s steps m) (is : (after s steps).verdict ≡ Some v) where
+  most : IsMaximal s.filler s.capacity (first_of s) steps
+  most = record { run = at.stood.run; last = λ step en. none_some (after s steps).verdict v en.going is }
 
   agree : OrdersAgree s.filler s.capacity (module_actions s.module_ s.memory.symbols) s.memory s.engines
-  agree = let sound = r.at.stood.sound in valid_orders s.module_ sound.valid s.memory sound.fits s.filler s.capacity s.engines sound.some_engine
+  agree = let sound = at.stood.sound in valid_orders s.module_ sound.valid s.memory sound.fits s.filler s.capacity s.engines sound.some_engine
 
   abbrev whole : Outcome Device
   whole = promptly s.filler s.capacity (module_actions s.module_ s.memory.symbols) s.memory
@@ -111,32 +107,34 @@ module _ (s : Setting) (pick : ℕ) (v : Verdict) (trace : ℕ) (m : Code) (r : 
   unfolding prompt
   whole_is = refl
 
-  ends_as : v ≡ prompt_verdict (prompt s.module_ s.memory s.filler s.capacity)
+  -- its verdict is the prompt meaning's
+  pub ends_as : v ≡ prompt_verdict (prompt s.module_ s.memory s.filler s.capacity)
   ends_as = by whole refl ∙ ap verdict_of whole_is
     where
       by : (o : Outcome Device) → whole ≡ o → v ≡ verdict_of whole
-      by (End y) e = same_some v verdict.End (sym r.verdict_is ∙ (agree.ended r.steps most y e).verdict) ∙ ap verdict_of (sym e)
-      by (Fault k y) e = same_some v (verdict.Fault k) (sym r.verdict_is ∙ (agree.faulted r.steps most k y e).verdict) ∙ ap verdict_of (sym e)
+      by (End y) e = same_some v verdict.End (sym is ∙ (agree.ended steps most y e).verdict) ∙ ap verdict_of (sym e)
+      by (Fault k y) e = same_some v (verdict.Fault k) (sym is ∙ (agree.faulted steps most k y e).verdict) ∙ ap verdict_of (sym e)
 
-  -- the memory of a run to the end fits the module
-  slow_is : v ≡ verdict.End → (after s r.steps).core.state.slow ≡ prompt_slow (prompt s.module_ s.memory s.filler s.capacity)
+  slow_is : v ≡ verdict.End → (after s steps).core.state.slow ≡ prompt_slow (prompt s.module_ s.memory s.filler s.capacity)
   slow_is q = by whole refl ∙ ap prompt_slow whole_is
     where
       apart : (k : FaultKind) → verdict.End ≡ verdict.Fault k → ⊥
       apart k e = absurd (cc)
 
-      by : (o : Outcome Device) → whole ≡ o → (after s r.steps).core.state.slow ≡ prompt_slow whole
-      by (End y) e = (agree.ended r.steps most y e).slow ∙ ap prompt_slow (sym e)
-      by (Fault k y) e = absurd (apart k (sym q ∙ same_some v (verdict.Fault k) (sym r.verdict_is ∙ (agree.faulted r.steps most k y e).verdict)))
+      by : (o : Outcome Device) → whole ≡ o → (after s steps).core.state.slow ≡ prompt_slow whole
+      by (End y) e = (agree.ended steps most y e).slow ∙ ap prompt_slow (sym e)
+      by (Fault k y) e = absurd (apart k (sym q ∙ same_some v (verdict.Fault k) (sym is ∙ (agree.faulted steps most k y e).verdict)))
 
-  pub runs_order : (image : Image) (count : ℕ) → image ≡ with_slow s.memory (after s r.steps).core.state.slow → count ≡ length r.steps → RunsOrder s pick (record { verdict = v; image = image; steps = count; trace = trace })
-  runs_order image count i n = record { steps = r.steps; maximal = most; picked = r.picked; verdict_is = r.verdict_is; image_is = i; steps_are = n; prompt_is = ends_as }
-
-  pub fits_at_end : (image : Image) → image ≡ with_slow s.memory (after s r.steps).core.state.slow → v ≡ verdict.End → Fits s.module_ image
+  -- the memory of a run to the end fits the module
+  pub fits_at_end : (image : Image) → image ≡ with_slow s.memory (after s steps).core.state.slow → v ≡ verdict.End → Fits s.module_ image
   fits_at_end image i q =
-      let sound = r.at.stood.sound in
+      let sound = at.stood.sound in
       let law = runs_promptly s.module_ sound.valid s.memory sound.fits s.filler s.capacity in
       subst (Fits s.module_) (sym (i ∙ ap (with_slow s.memory) (slow_is q))) law.fits.fits
+
+pub runs_order : (s : Setting) (pick : ℕ) (v : Verdict) (trace : ℕ) (m : Code) (r : RunBy s pick v trace m) (image : Image) (count : ℕ) → image ≡ with_slow s.memory (after s r.steps).core.state.slow → count ≡ length r.steps
+    → RunsOrder s pick (record { verdict = v; image = image; steps = count; trace = trace })
+runs_order s pick v trace m r image count i n = record { steps = r.steps; maximal = most s r.steps v m r.at r.verdict_is; picked = r.picked; verdict_is = r.verdict_is; image_is = i; steps_are = n; prompt_is = ends_as s r.steps v m r.at r.verdict_is }
 
 -- ---- the loop
 

@@ -1,5 +1,5 @@
 -- What is known of a state of a run of a valid module's machine.
-use Rattle.std.proofs.Common.{◌≡◌, ℕ, ℤ, zero, suc, ◌+◌, ◌<◌, ◌≤◌, ◌^◌, Bool, true, false, List, [], ◌∷◌, length, sym, refl, ap, ◌∙◌, subst, arith}
+use Rattle.std.proofs.Common.{◌≡◌, ℕ, ℤ, ◌+◌, ◌<◌, ◌≤◌, ◌^◌, false, List, [], ◌∷◌, length, sym, ap, ◌∙◌, subst, arith}
 use Rattle.std.specs.Prelude.{Option, Some, None}
 use Rattle.bus_model.specs.declared.step.Step.{Step}
 use Rattle.direct_meaning.specs.Action.{Action}
@@ -21,12 +21,11 @@ use Rattle.prompt_laws.proofs.Conclusions.{runs_promptly}
 use Rattle.prompt_run.proofs.Agreement.{total_rises}
 use Rattle.run_laws.proofs.Memories.{memory_cells}
 use Rattle.order_laws.proofs.Valid.{valid_orderly}
-use Rattle.order_meaning.specs.Machine.{Core, Machine, transfers_of, is_held_up}
+use Rattle.order_meaning.specs.Machine.{transfers_of, is_held_up}
 use Rattle.order_meaning.specs.Run.{all_left}
-use Rattle.order_meaning.specs.Orderly.{Orderly}
 use Rattle.order_meaning.specs.Law.{promptly}
 use Rattle.order_meaning.proofs.Numbers.{total}
-use Rattle.order_meaning.proofs.Runs.{Going, Goes, Stands, IsSomeAction, Possible, possible, not_past}
+use Rattle.order_meaning.proofs.Runs.{Going, Goes, IsSomeAction, Possible, possible, not_past}
 use Rattle.order_memory.specs.Reaches.{CanTake}
 use Rattle.order_machine.specs.Standing.{Setting, IsSound, IsRunOf, first_of, after}
 use Rattle.order_machine.proofs.Along.{Derived, derive, starts}

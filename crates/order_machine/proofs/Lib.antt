@@ -5,3 +5,4 @@ pub mod Lists
 pub mod Moves
 pub mod Begins
 pub mod Chosen
+pub mod Obeyed

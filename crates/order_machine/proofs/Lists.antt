@@ -1,22 +1,22 @@
 -- The enabled steps as the code lists them.
-use Rattle.std.proofs.Common.{◌≡◌, ℕ, ℤ, zero, suc, ◌+◌, ◌*◌, ◌-◌, ◌<◌, ◌≤◌, ◌^◌, Bool, true, false, List, [], ◌∷◌, ◌++◌, length, sym, refl, ap, ◌∙◌, subst, arith}
+use Rattle.std.proofs.Common.{◌≡◌, ℕ, zero, suc, ◌+◌, ◌*◌, ◌-◌, ◌<◌, ◌≤◌, ◌^◌, true, false, List, [], ◌∷◌, ◌++◌, length, sym, refl, ap, ◌∙◌, subst, arith}
 use Rattle.std.specs.Prelude.{Option, Some, None, slice_get, if◌then◌else◌}
 use Rattle.bus_model.specs.declared.step.Step.{Step}
 use Rattle.bus_model.specs.declared.step.Step.TheVariants.{Compute}
 use Rattle.bus_model.specs.declared.step.Verdict.{Verdict}
-use Rattle.bus_model.specs.Engines.{Flight, flight_of}
+use Rattle.bus_model.specs.Engines.{Flight}
 use Rattle.direct_meaning.specs.Action.{Action as Meaning}
 use Rattle.walk_actions.specs.declared.action.Action.{Action}
 use Rattle.walk_actions.specs.declared.action.Action.TheVariants as code
 use Rattle.walk_actions.specs.declared.action.Operand.{Operand}
 use Rattle.walk_actions.specs.Meant.{meant}
 use Rattle.affine_ast.specs.declared.name.Name.{Name}
-use Rattle.order_meaning.specs.Machine.{is_held_up, holds_up, held_by, CanCompute}
+use Rattle.order_meaning.specs.Machine.{is_held_up, held_by, CanCompute}
 use Rattle.order_meaning.specs.Listed.{IsWaiting, compute_steps, engine_steps, steps_from, listed, IsListed}
 use Rattle.order_meaning.proofs.Flights.{both_ways}
 use Rattle.order_meaning.proofs.Listed.{lists_one}
 use Rattle.order_engines.specs.Flying.{flights_of}
-use Rattle.order_engines.proofs.Waits.{get_front, get_behind, length_both, few_steps}
+use Rattle.order_engines.proofs.Waits.{length_both, few_steps}
 use Rattle.order_memory.proofs.Starts.{few_waiting}
 use Rattle.order_machine.specs.declared.machine.Machine.{Machine}
 use Rattle.order_machine.specs.Standing.{Setting, IsAt, stuck, left_of, after}

@@ -1,17 +1,15 @@
 -- A step made.
-use Rattle.std.proofs.Common.{◌≡◌, ℕ, ℤ, zero, suc, ◌+◌, ◌<◌, ◌≤◌, ◌^◌, Bool, true, false, List, [], ◌∷◌, ◌++◌, length, sym, refl, ap, ◌∙◌, subst, arith, Result, Ok, Err}
-use Rattle.std.specs.Prelude.{Option, Some, None}
+use Rattle.std.proofs.Common.{◌≡◌, ℕ, ◌+◌, ◌<◌, ◌^◌, Bool, true, false, List, [], ◌∷◌, ◌++◌, length, sym, refl, ap, ◌∙◌, subst, arith, Ok, Err}
+use Rattle.std.specs.Prelude.{Some, None}
 use Rattle.std.specs.Bool.{MatchBool}
 use Rattle.bus_model.specs.declared.step.FaultKind.{FaultKind}
 use Rattle.bus_model.specs.declared.step.Step.{Step}
 use Rattle.bus_model.specs.declared.step.Step.TheVariants.{Compute, Take, Move, Finish}
-use Rattle.bus_model.specs.declared.step.Verdict.{Verdict}
 use Rattle.bus_model.specs.declared.step.Verdict.TheVariants as verdict
 use Rattle.direct_meaning.specs.Action.{Action as Meaning}
-use Rattle.direct_meaning.specs.Direct.{Outcome, End, Fault}
+use Rattle.direct_meaning.specs.Direct.{End, Fault}
 use Rattle.prompt_laws.specs.Rooms.{module_rooms}
-use Rattle.order_meaning.specs.Machine.{Core, Machine as Model, Enabled, Permitted, CanCompute, engine_step, end_of, settled, act_on, compute_step, after_step}
-use Rattle.order_memory.specs.declared.memory.Memory.{Memory}
+use Rattle.order_meaning.specs.Machine.{Machine as Model, Enabled, Permitted, CanCompute, engine_step, end_of, settled, act_on, compute_step, after_step}
 use Rattle.order_memory.specs.Tied.{Tied, Follows, TakesOrNot, MovesOrNot, FinishesOrNot}
 use Rattle.order_machine.specs.declared.machine.Machine.{Machine}
 use Rattle.std.proofs.lemmas.List.{length-append}
@@ -19,7 +17,7 @@ use Rattle.walk_actions.specs.declared.action.Action.{Action}
 use Rattle.walk_actions.specs.Meant.{meant, NamesIn}
 use Rattle.order_engines.specs.Flying.{flights_of}
 use Rattle.order_memory.specs.Reaches.{CanTake}
-use Rattle.order_machine.specs.Standing.{Setting, IsRunOf, IsAt, Stood, Makes, SameElse, NextIn, stuck, left_of, after}
+use Rattle.order_machine.specs.Standing.{Setting, IsRunOf, IsAt, Stood, Makes, NextIn, stuck, left_of, after}
 use Rattle.order_machine.proofs.Along.{run_on, after_both}
 use Rattle.order_machine.proofs.Derived.{engines_are, few_steps, can_take}
 use Rattle.order_machine.proofs.Lists.{can_compute, cannot}

@@ -1,24 +1,21 @@
 -- What an action reaches on the prompt side it reaches on the machine's.
-use Rattle.std.proofs.Common.{◌≡◌, ℕ, ℤ, zero, suc, ◌+◌, ◌<◌, ◌≤◌, Bool, true, false, List, [], ◌∷◌, length, sym, refl, ap, ◌∙◌, subst, arith}
+use Rattle.std.proofs.Common.{◌≡◌, ℕ, ℤ, false, List, ◌∷◌, length, sym, refl, ap, ◌∙◌, subst, arith}
 use Rattle.std.specs.Prelude.{Option, Some, None}
-use Rattle.affine_ast.specs.declared.name.Name.{Name}
-use Rattle.affine_ast.specs.declared.types.Element.{Element}
 use Rattle.int_ops.specs.Operation.{operation}
 use Rattle.bus_model.specs.declared.transfer.Transfer.{Transfer}
-use Rattle.bus_model.specs.Places.{slow_place}
-use Rattle.bus_model.specs.Engines.{Flight, flight_of, started_of}
+use Rattle.bus_model.specs.Engines.{Flight, flight_of}
 use Rattle.direct_meaning.specs.Action.{Place, Slow, Fast, Outside, Action, Known, Sets, Loads, Stores, RawLoads, RawStores, Operates, Converts, Allocates, Releases, AllocatesTags, ReleasesTags, Starts, Waits, Faults, Returns}
 use Rattle.direct_meaning.specs.Direct.{read}
 use Rattle.prompt_meaning.specs.Device.{Device, record_of}
 use Rattle.run_parts.specs.Settled.{settled_result, settled}
 use Rattle.prompt_laws.specs.Reaches as prompt
 use Rattle.prompt_laws.specs.Rooms.{Room, room_at}
-use Rattle.order_meaning.specs.Machine.{Half, Here, Away, Core, is_held_up, holds_up, transfers_of}
-use Rattle.order_meaning.specs.Agree.{Agree, with_list, lists_of, tag_of}
+use Rattle.order_meaning.specs.Machine.{Half, Here, Away, Core, is_held_up}
+use Rattle.order_meaning.specs.Agree.{Agree, with_list, tag_of}
 use Rattle.order_meaning.specs.Orderly.{Rooms}
-use Rattle.order_meaning.proofs.Flights.{none_some, same_some, record_of_flight, record_of_started, started_of_record}
+use Rattle.order_meaning.proofs.Flights.{none_some, record_of_flight, record_of_started, started_of_record}
 use Rattle.order_meaning.proofs.Roomy.{Roomy}
-use Rattle.order_memory.specs.Reaches.{IsLong, IsHome, IsOut, HalfIn, PlaceIn, StartIn, AllocIn, WaitIn, Reaches, CanDo}
+use Rattle.order_memory.specs.Reaches.{IsLong, IsHome, IsOut, HalfIn, PlaceIn, StartIn, Reaches, CanDo}
 
 module _ (n : ℕ) (x : Core) (y : Device) (agree : Agree n x y) (rooms : List Room) where
   half_in : (number half : ℕ) → prompt.HalfIn rooms y.halves number half → HalfIn rooms x number half

@@ -1,12 +1,12 @@
 -- Runs whose steps are chosen by numbers.
-use Rattle.std.specs.Prelude.{◌≡◌, ℕ, ◌+◌, ◌*◌, ◌/◌, ◌%◌, ◌^◌, ℤ, List, [], ◌∷◌, ◌++◌, length, Option, Some, slice_get}
+use Rattle.std.specs.Prelude.{◌≡◌, ℕ, ◌+◌, ◌*◌, ◌/◌, ◌%◌, ◌^◌, ℤ, List, [], ◌∷◌, ◌++◌, length, Some, slice_get}
 use Rattle.affine_ast.specs.declared.image.Image.{Image}
 use Rattle.affine_ast.specs.declared.module.Module.{Module}
 use Rattle.bus_model.specs.declared.step.Step.{Step}
 use Rattle.bus_model.specs.declared.step.Verdict.{Verdict}
 use Rattle.prompt_meaning.specs.Prompt.{prompt, prompt_verdict}
 use Rattle.run_laws.specs.StaysFitting.{with_slow}
-use Rattle.order_meaning.specs.Machine.{Machine, Enabled, after_step}
+use Rattle.order_meaning.specs.Machine.{Machine, after_step}
 use Rattle.order_meaning.specs.Run.{IsMaximal}
 use Rattle.order_meaning.specs.Listed.{IsListed}
 use Rattle.order_machine.specs.declared.machine.Machine.{Machine as Code}

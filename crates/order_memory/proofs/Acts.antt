@@ -1,5 +1,5 @@
 -- An action with its operands read.
-use Rattle.std.proofs.Common.{◌≡◌, ℕ, ℤ, ◌+◌, ◌<◌, ◌≤◌, List, [], length, refl, sym, ap, ◌∙◌, subst, arith}
+use Rattle.std.proofs.Common.{◌≡◌, ℕ, ℤ, ◌<◌, ◌≤◌, List, length, sym, ap, ◌∙◌, subst, arith}
 use Rattle.std.specs.Prelude.{vec_capacity}
 use Rattle.affine_ast.specs.declared.name.Name.{Name}
 use Rattle.affine_ast.specs.Names.{put}
@@ -7,7 +7,7 @@ use Rattle.direct_meaning.specs.Action.{Place, Slow, Fast, Outside}
 use Rattle.direct_meaning.specs.Direct.{keep}
 use Rattle.run_parts.specs.Registered.{values_of}
 use Rattle.prompt_laws.specs.Reaches.{FlightsFit}
-use Rattle.prompt_laws.specs.Rooms.{Room, room_at}
+use Rattle.prompt_laws.specs.Rooms.{Room}
 use Rattle.order_meaning.specs.Machine.{Core, transfers_of}
 use Rattle.order_engines.specs.declared.flights.Flights.{Flights}
 use Rattle.order_engines.specs.Flying.{flights_of}

@@ -1,5 +1,5 @@
 -- Allocations and releases.
-use Rattle.std.proofs.Common.{◌≡◌, ℕ, ℤ, zero, suc, ◌+◌, ◌-◌, ◌<◌, ◌≤◌, Bool, true, false, List, length, replicate, set, get_or, refl, sym, ap, ◌∙◌, subst, arith, All, Ok, Err}
+use Rattle.std.proofs.Common.{◌≡◌, ℕ, ℤ, ◌+◌, ◌-◌, ◌<◌, ◌≤◌, Bool, true, false, List, length, replicate, set, get_or, refl, sym, ap, ◌∙◌, subst, arith, All, Ok, Err}
 use Rattle.std.specs.Prelude.{Some, nat_le, slice_get, vec_capacity, if◌then◌else◌}
 use Rattle.std.proofs.lemmas.Bool.{le-leb, leb-true}
 use Rattle.std.proofs.lemmas.Option.{slice_get-get_or}
@@ -8,8 +8,7 @@ use Rattle.affine_ast.specs.Sizes.{element_bits}
 use Rattle.int_ops.specs.Wrapped.{wrapped}
 use Rattle.bus_model.specs.declared.step.FaultKind.TheVariants.{Capacity, Touched, Tag}
 use Rattle.fast_halves.specs.Shape.{HalfShape, HalvesShape, here, away, IsHere}
-use Rattle.direct_meaning.specs.Actions.{half_cells}
-use Rattle.direct_meaning.specs.Direct.{Outcome, End, Fault}
+use Rattle.direct_meaning.specs.Direct.{End, Fault}
 use Rattle.prompt_meaning.specs.Device.{bytes_of, fresh_half, has_away, has_started, put_halves}
 use Rattle.run_parts.specs.Registered.{values_of}
 use Rattle.prompt_laws.specs.Rooms.{Room, room_at, room_of}
@@ -18,7 +17,7 @@ use Rattle.order_engines.specs.declared.flights.Flights.{Flights}
 use Rattle.order_engines.specs.Flying.{flights_of}
 use Rattle.order_engines.specs.Waiting.{IsFlights}
 use Rattle.order_memory.specs.declared.memory.Memory.{Memory}
-use Rattle.order_memory.specs.Halves.{memref_at, half_at, SameHalf, SameHalves}
+use Rattle.order_memory.specs.Halves.{memref_at, SameHalf, SameHalves}
 use Rattle.order_memory.specs.Parts.{released, tags_released}
 use Rattle.order_memory.specs.Tied.{Tied, Follows}
 use Rattle.order_memory.specs.Reaches.{IsHome}

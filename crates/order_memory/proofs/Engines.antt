@@ -1,16 +1,15 @@
 -- The steps of engines.
-use Rattle.std.proofs.Common.{◌≡◌, ℕ, ℤ, ◌<◌, ◌≤◌, Bool, true, false, List, length, refl, sym, ap, ◌∙◌, subst, length-set, ◌+◌}
-use Rattle.std.specs.Prelude.{Option, Some, None, vec_capacity, if◌then◌else◌}
+use Rattle.std.proofs.Common.{◌≡◌, ℕ, ℤ, ◌≤◌, Bool, true, false, List, length, refl, sym, ap, ◌∙◌, subst, length-set, ◌+◌}
+use Rattle.std.specs.Prelude.{Some, None, vec_capacity, if◌then◌else◌}
 use Rattle.std.specs.Bool.{MatchBool}
 use Rattle.std.specs.Vec.{with_items}
 use Rattle.std.proofs.lemmas.List.{with_items_is}
-use Rattle.bus_model.specs.declared.step.Step.TheVariants.{Take, Move, Finish}
 use Rattle.bus_model.specs.Engines.{Flight, with_flight, with_engine, next_in, next_out, slow_out}
 use Rattle.bus_model.specs.Places.{slow_place}
 use Rattle.bus_model.specs.Copies.{number_at}
 use Rattle.run_parts.specs.Registered.{values_of}
 use Rattle.prompt_laws.specs.Rooms.{Room}
-use Rattle.order_meaning.specs.Machine.{Core, transfers_of, held_by, with_next, with_finished, engine_step}
+use Rattle.order_meaning.specs.Machine.{Core, transfers_of, held_by, with_next, with_finished}
 use Rattle.order_meaning.proofs.Flights.{transfers_with}
 use Rattle.order_engines.specs.declared.flights.Flights.{Flights}
 use Rattle.order_engines.specs.Flying.{flights_of, MayTake, MayMove, MayFinish, Changed, IsMoved}

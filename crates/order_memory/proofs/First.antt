@@ -2,7 +2,7 @@
 use Rattle.std.proofs.Common.{◌≡◌, ℕ, ℤ, zero, suc, ◌≤◌, pos, List, [], ◌∷◌, length, replicate, refl, sym, ap, ◌∙◌, subst, arith}
 use Rattle.std.specs.Prelude.{Some, slice_get, vec_capacity}
 use Rattle.std.proofs.lemmas.List.{length-replicate}
-use Rattle.fast_halves.specs.Shape.{HalfShape, HalvesShape, here, away}
+use Rattle.fast_halves.specs.Shape.{HalfShape, HalvesShape, here}
 use Rattle.prompt_laws.specs.Rooms.{Room, room_at}
 use Rattle.bus_model.specs.Engines.{Flight}
 use Rattle.run_parts.specs.Registered.{values_of}
@@ -12,7 +12,8 @@ use Rattle.order_meaning.specs.Machine.{Here, Core, transfers_of}
 use Rattle.order_engines.specs.Flying.{flights_of, AllFlyWithin}
 use Rattle.order_memory.specs.declared.memory.Memory.{Memory}
 use Rattle.order_memory.specs.Tied.{AllHome, Tied, IsFirst}
-use Rattle.order_memory.specs.Halves.{memref_at, half_at, SameHalf, SameHalves, HasRoom, AreRooms}
+use Rattle.fast_rooms.specs.Rooms.{HaveRooms}
+use Rattle.order_memory.specs.Halves.{memref_at, SameHalf, SameHalves}
 
 -- what stands in a list of equal things
 pub in_equals : (n : ℕ) (v : HalfShape) (k : ℕ) (w : HalfShape) → slice_get (replicate n v) k ≡ Some w → v ≡ w
@@ -20,25 +21,25 @@ in_equals zero v k w e = absurd (cc)
 in_equals (suc n) v zero w e = cc
 in_equals (suc n) v (suc k) w e = in_equals n v k w e
 
-as_many : (rooms : List Room) (hs : List HalvesShape) → AreRooms rooms hs → length hs ≡ length rooms
+as_many : (rooms : List Room) (hs : List HalvesShape) → HaveRooms rooms hs → length hs ≡ length rooms
 as_many [] [] a = refl
 as_many [] (m ∷ hs) a = absurd a
 as_many (r ∷ rooms) [] a = absurd a
 as_many (r ∷ rooms) (m ∷ hs) a = ap suc (as_many rooms hs a.1)
 
-cells_at : (rooms : List Room) (hs : List HalvesShape) (n : ℕ) → AreRooms rooms hs → (memref_at hs n).cells ≡ (room_at rooms n).cells
+cells_at : (rooms : List Room) (hs : List HalvesShape) (n : ℕ) → HaveRooms rooms hs → (memref_at hs n).cells ≡ (room_at rooms n).cells
 cells_at [] [] n a = refl
 cells_at [] (m ∷ hs) n a = absurd a
 cells_at (r ∷ rooms) [] n a = absurd a
-cells_at (r ∷ rooms) (m ∷ hs) zero a = a.0.cells
+cells_at (r ∷ rooms) (m ∷ hs) zero a = a.0.cells_are
 cells_at (r ∷ rooms) (m ∷ hs) (suc n) a = cells_at rooms hs n a.1
 
-halves_at : (rooms : List Room) (hs : List HalvesShape) (n : ℕ) → AreRooms rooms hs
+halves_at : (rooms : List Room) (hs : List HalvesShape) (n : ℕ) → HaveRooms rooms hs
     → (memref_at hs n).halves ≡ replicate (room_at rooms n).halves (here (replicate (room_at rooms n).cells (pos 0)))
 halves_at [] [] n a = refl
 halves_at [] (m ∷ hs) n a = absurd a
 halves_at (r ∷ rooms) [] n a = absurd a
-halves_at (r ∷ rooms) (m ∷ hs) zero a = a.0.halves
+halves_at (r ∷ rooms) (m ∷ hs) zero a = a.0.halves_are
 halves_at (r ∷ rooms) (m ∷ hs) (suc n) a = halves_at rooms hs n a.1
 
 -- a half without cells
@@ -47,7 +48,7 @@ no_cells [] zero q e = refl
 no_cells [] (suc n) q e = absurd (omega (arith, e))
 no_cells (z ∷ c) n q e = absurd (cc)
 
-pub first_halves : (rooms : List Room) (hs : List HalvesShape) → AreRooms rooms hs → SameHalves rooms (λ number half. Here []) hs
+pub first_halves : (rooms : List Room) (hs : List HalvesShape) → HaveRooms rooms hs → SameHalves rooms (λ number half. Here []) hs
 first_halves rooms hs a = record {
   memrefs = as_many rooms hs a;
   cells = λ n. cells_at rooms hs n a;
@@ -67,7 +68,7 @@ none_waiting : IsWaiting [] []
 none_waiting = record { ascending = tt; members = λ t. ((λ h. absurd h), (λ h. absurd (no_tag t h.0 h.1))) }
 
 -- a memory before the first action
-module _ (rooms : List Room) (x : Core) (m : Memory) (slow : List ℤ) (first : IsFirst slow x) (values : values_of m.registers ≡ (λ n. pos 0)) (words : m.slow.items ≡ slow) (are : AreRooms rooms m.halves.items)
+module _ (rooms : List Room) (x : Core) (m : Memory) (slow : List ℤ) (first : IsFirst slow x) (values : values_of m.registers ≡ (λ n. pos 0)) (words : m.slow.items ≡ slow) (are : HaveRooms rooms m.halves.items)
     (records : m.records.items ≡ []) (flying : m.flights.flying.items ≡ []) (waiting : m.flights.waiting.items ≡ []) (live : m.live ≡ 0)
     (room : 65536 ≤ vec_capacity m.flights.flying) (waiting_room : 65537 ≤ vec_capacity m.flights.waiting) (record_room : 65536 ≤ vec_capacity m.records) where
   pub first_tied : Tied rooms x m

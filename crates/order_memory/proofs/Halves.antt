@@ -1,9 +1,9 @@
 -- Halves changed on both sides.
-use Rattle.std.proofs.Common.{◌≡◌, ◌≢◌, ℕ, ℤ, zero, suc, ◌<◌, true, false, List, length, replicate, set, refl, sym, ap, ◌∙◌, subst, eq-eqb, ne_eqb, length-set, get_or-set_same, get_or-set_other}
+use Rattle.std.proofs.Common.{◌≡◌, ◌≢◌, ℕ, ℤ, ◌<◌, List, length, replicate, set, refl, sym, ap, ◌∙◌, subst, eq-eqb, ne_eqb, length-set, get_or-set_same, get_or-set_other}
 use Rattle.std.specs.Prelude.{nat_eq, Some, slice_get}
 use Rattle.std.proofs.lemmas.List.{length-replicate}
 use native.Mathlib.Decide.{ℕ_discrete}
-use Rattle.fast_halves.specs.Shape.{HalfShape, HalvesShape, here, away}
+use Rattle.fast_halves.specs.Shape.{HalfShape, HalvesShape, here}
 use Rattle.prompt_meaning.specs.Device.{put_half, put_halves}
 use Rattle.prompt_laws.specs.Rooms.{Room, room_at}
 use Rattle.order_meaning.specs.Machine.{Half, Here}

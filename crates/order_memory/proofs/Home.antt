@@ -1,5 +1,5 @@
 -- Outstanding transfers of halves that are there.
-use Rattle.std.proofs.Common.{◌≡◌, ℕ, Bool, true, false, List, [], ◌∷◌, ◌++◌, sym, ap, ◌∙◌, subst}
+use Rattle.std.proofs.Common.{◌≡◌, ℕ, Bool, true, false, List, [], ◌∷◌, ◌++◌, subst}
 use Rattle.std.specs.Prelude.{Some, nat_eq, if◌then◌else◌}
 use Rattle.bus_model.specs.Engines.{Flight, flight_of, with_flight}
 use Rattle.prompt_laws.specs.Rooms.{Room}

@@ -1,5 +1,4 @@
 pub mod Changed
-pub mod Adding
 pub mod First
 pub mod Halves
 pub mod Home

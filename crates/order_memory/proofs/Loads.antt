@@ -4,14 +4,14 @@ use Rattle.std.specs.Prelude.{Some, slice_get, slice_index_or, vec_capacity}
 use Rattle.std.proofs.lemmas.Option.{get_or_from_slice_get}
 use Rattle.bus_model.specs.declared.step.FaultKind.{FaultKind}
 use Rattle.bus_model.specs.declared.step.FaultKind.TheVariants.{Race, Touched}
-use Rattle.fast_halves.specs.Shape.{HalfShape, HalvesShape, here, away}
+use Rattle.fast_halves.specs.Shape.{here, away}
 use Rattle.direct_meaning.specs.Action.{Slow, Fast}
 use Rattle.direct_meaning.specs.Direct.{Outcome, End, Fault, keep, write}
 use Rattle.prompt_meaning.specs.Device.{load_races, store_races, put_half}
 use Rattle.prompt_meaning.specs.Prompt.{refused}
 use Rattle.run_parts.specs.Registered.{values_of}
 use Rattle.prompt_laws.specs.Rooms.{Room, room_at}
-use Rattle.order_meaning.specs.Machine.{Half, Here, Away, Core, transfers_of, load, load_half, store, store_half}
+use Rattle.order_meaning.specs.Machine.{Half, Here, Away, Core, transfers_of, load_half, store, store_half}
 use Rattle.order_engines.specs.declared.flights.Flights.{Flights}
 use Rattle.order_engines.specs.Flying.{flights_of}
 use Rattle.order_engines.specs.Waiting.{IsFlights}

@@ -1,5 +1,5 @@
 -- Starts.
-use Rattle.std.proofs.Common.{◌≡◌, ℕ, ℤ, zero, suc, ◌+◌, ◌<◌, ◌≤◌, ◌^◌, ne_eqb, Bool, true, false, List, [], ◌∷◌, ◌++◌, length, set, refl, sym, ap, ◌∙◌, subst, arith, Ok, Err, inl, inr}
+use Rattle.std.proofs.Common.{◌≡◌, ℕ, ℤ, zero, suc, ◌+◌, ◌<◌, ◌≤◌, ne_eqb, true, false, List, [], ◌∷◌, ◌++◌, length, refl, sym, ap, ◌∙◌, subst, arith, Err}
 use Rattle.std.specs.Prelude.{Option, Some, None, nat_eq, slice_get, vec_capacity}
 use Rattle.std.proofs.lemmas.List.{length-map}
 use native.Mathlib.Decide.{ℕ_discrete}
@@ -7,13 +7,13 @@ use Rattle.bus_model.specs.declared.step.FaultKind.TheVariants.{Touched, Race, T
 use Rattle.bus_model.specs.declared.transfer.Transfer.{Transfer}
 use Rattle.bus_model.specs.Places.{slow_place}
 use Rattle.bus_model.specs.Engines.{Flight, flight_of}
-use Rattle.fast_halves.specs.Shape.{HalfShape, HalvesShape, here, away}
-use Rattle.direct_meaning.specs.Direct.{Outcome, End, Fault}
+use Rattle.fast_halves.specs.Shape.{HalfShape, here, away}
+use Rattle.direct_meaning.specs.Direct.{Fault}
 use Rattle.prompt_meaning.specs.Device.{is_started, start_races, put_half, record_of}
 use Rattle.run_parts.specs.Registered.{values_of}
-use Rattle.prompt_laws.specs.Reaches.{FlightsFit, FlightFits}
+use Rattle.prompt_laws.specs.Reaches.{FlightsFit}
 use Rattle.prompt_laws.specs.Rooms.{Room, room_at}
-use Rattle.transfer_records.proofs.Found.{room_for}
+use Rattle.fast_rooms.proofs.Flights.{room_for}
 use Rattle.order_meaning.specs.Listed.{Has, IsBelow, IsAscending, IsWaiting}
 use Rattle.order_meaning.specs.Machine.{Half, Here, Away, Core, transfers_of, sent, start, start_half, CanBeTaken}
 use Rattle.order_meaning.proofs.Flights.{if_false, same_some, transfers_behind, no_flight_of_record, record_of_flight}
@@ -21,9 +21,9 @@ use Rattle.order_meaning.proofs.Sides.{not_started}
 use Rattle.order_engines.specs.Flying.{flight, flights_of, FliesWithin}
 use Rattle.order_engines.specs.Waiting.{IsFlights}
 use Rattle.order_memory.specs.declared.memory.Memory.{Memory}
-use Rattle.order_memory.specs.Halves.{memref_at, half_at, SameHalf, SameHalves, HalfHere}
+use Rattle.order_memory.specs.Halves.{memref_at, half_at, SameHalf, SameHalves}
 use Rattle.order_memory.specs.Tied.{Tied, Follows, Ends}
-use Rattle.order_memory.specs.Reaches.{IsLong, HalfIn, StartIn}
+use Rattle.order_memory.specs.Reaches.{IsLong, StartIn}
 use Rattle.order_memory.proofs.Changed.{changed}
 use Rattle.order_memory.proofs.Halves.{put_both}
 use Rattle.order_memory.proofs.Home.{home_behind}

@@ -1,12 +1,11 @@
 -- Waits.
-use Rattle.std.proofs.Common.{◌≡◌, ℕ, ℤ, zero, suc, ◌+◌, ◌<◌, ◌≤◌, Bool, true, false, List, [], ◌∷◌, length, set, get_or, refl, sym, ap, ◌∙◌, subst, arith, Ok, Err, eq-eqb}
+use Rattle.std.proofs.Common.{◌≡◌, ℕ, zero, suc, ◌<◌, ◌≤◌, Bool, true, false, List, [], ◌∷◌, length, get_or, refl, sym, ap, ◌∙◌, subst, arith, Err, eq-eqb}
 use Rattle.std.specs.Prelude.{Option, Some, None, nat_eq, not, ◌&&◌, slice_get, vec_capacity, if◌then◌else◌}
-use Rattle.std.specs.List.{remove}
 use Rattle.bus_model.specs.declared.step.FaultKind.TheVariants.{Shape, Tag}
 use Rattle.bus_model.specs.declared.transfer.Transfer.{Transfer}
 use Rattle.bus_model.specs.Engines.{Flight, flight_of}
-use Rattle.fast_halves.specs.Shape.{HalfShape, HalvesShape, here, away, IsAway}
-use Rattle.direct_meaning.specs.Direct.{Outcome, End, Fault}
+use Rattle.fast_halves.specs.Shape.{HalfShape, here, away, IsAway}
+use Rattle.direct_meaning.specs.Direct.{End, Fault}
 use Rattle.prompt_meaning.specs.Device.{put_half, record_of, without}
 use Rattle.run_parts.specs.Registered.{values_of}
 use Rattle.prompt_laws.specs.Rooms.{Room, room_at}

@@ -1,11 +1,7 @@
 -- The halves of fast memrefs as the code has them, against those of the machine.
-use Rattle.std.specs.Prelude.{◌≡◌, ℕ, ◌<◌, ℤ, pos, List, [], ◌∷◌, ◌++◌, length, replicate, Option, slice_get, slice_index_or, Some}
-use Rattle.affine_ast.specs.declared.name.Name.{Name}
+use Rattle.std.specs.Prelude.{◌≡◌, ℕ, ◌<◌, ℤ, List, [], length, Option, slice_get, slice_index_or, Some}
 use Rattle.fast_halves.specs.Shape.{HalfShape, HalvesShape, here, away}
-use Rattle.walk_program.specs.declared.plain.Plain.{Plain}
-use Rattle.walk_program.specs.Reading.{nest_of, plain_of}
-use Rattle.walk_program.specs.Tree.{Tree}
-use Rattle.prompt_laws.specs.Rooms.{Room, room_at, rooms_in, rooms_of_plain}
+use Rattle.prompt_laws.specs.Rooms.{Room, room_at}
 use Rattle.order_meaning.specs.Machine.{Half, Here, Away}
 
 abbrev pub no_halves : HalvesShape
@@ -44,25 +40,3 @@ HalfHere hs number half = (cells : List ℤ) × (half_at hs number half ≡ Some
 
 abbrev pub HalfAway : List HalvesShape → ℕ → ℕ → Type 0
 HalfAway hs number half = (tag : ℕ) × (half_at hs number half ≡ Some (away tag))
-
--- ---- made for a text
-
--- halves that are all here, with 0 in each cell
-pub record HasRoom (room : Room) (m : HalvesShape) : Type 0 where
-  pub cells : m.cells ≡ room.cells
-  pub halves : m.halves ≡ replicate room.halves (here (replicate room.cells (pos 0)))
-
-abbrev pub AreRooms : List Room → List HalvesShape → Type 0
-AreRooms [] [] = Unit {0}
-AreRooms [] (m ∷ hs) = ⊥
-AreRooms (room ∷ rooms) [] = ⊥
-AreRooms (room ∷ rooms) (m ∷ hs) = HasRoom room m × AreRooms rooms hs
-
--- memrefs are added for the allocations of a text before those of the rest of it
-abbrev pub Adds : Tree → Tree → List HalvesShape → List HalvesShape → Type 0
-Adds whole rest old new = (names : List Name) (rooms : List Room) → AreRooms rooms old
-    → (more : List Room) × AreRooms more new × (more ++ rooms_in (nest_of names rest) ≡ rooms ++ rooms_in (nest_of names whole))
-
--- a memref is added where a plain statement allocates one
-abbrev pub AddsPlain : Plain → List HalvesShape → List HalvesShape → Type 0
-AddsPlain p old new = (names : List Name) (rooms : List Room) → AreRooms rooms old → AreRooms (rooms ++ rooms_of_plain (plain_of names p)) new

@@ -21,16 +21,14 @@ ghost use Rattle.order_memory.specs.Tied.{Tied, IsFirst, Follows, Ends, Gives, T
 ghost use Rattle.order_memory.specs.Parts.{released, tags_released, accepted};
 ghost use Rattle.order_memory.specs.Reaches.{HalfIn, PlaceIn, PlaceThere, StartIn, IsOut, WaitIn, CanDo, CanTake};
 
-use crate::fast::add_memrefs;
 use affine_ast::Element;
 use bus_model::{FaultKind, Transfer};
 use fast_halves::Halves;
+use fast_rooms::{add_memrefs, bytes_of, wrap};
 use order_engines::{Flights, Flying, place_of};
 use run_parts::{Effect, Registers};
 use std::alloc::{AllocError, Global};
-use transfer_records::{
-    bytes_of, find, has_away, has_started, load_races, start_races, store_races, wrap,
-};
+use transfer_records::{find, has_away, has_started, load_races, start_races, store_races};
 use walk_actions::{Action, Operand, Place};
 use walk_program::Program;
 

@@ -7,5 +7,4 @@ pub mod Waits
 pub mod Starts
 pub mod Drains
 pub mod Begins
-pub mod Finds
 pub mod Allocs

@@ -1,13 +1,14 @@
 -- Lists of outstanding transfers, looked up by their tags.
-use Rattle.std.proofs.Common.{◌≡◌, ◌≢◌, ℕ, ℤ, Bool, true, false, List, [], ◌∷◌, ◌++◌, sym, refl, ap, ◌∙◌, subst, eq-eqb, ne_eqb}
+use Rattle.std.proofs.Common.{◌≡◌, ◌≢◌, ℕ, ℤ, Bool, true, false, List, [], ◌∷◌, ◌++◌, ◌≤◌, ◌^◌, sym, refl, ap, ◌∙◌, subst, arith, eq-eqb, ne_eqb}
 use Rattle.std.specs.Prelude.{◌||◌, Option, Some, None, if◌then◌else◌, nat_eq}
-use Rattle.std.specs.List.{list_any}
+use Rattle.std.specs.List.{All, list_any}
 use native.Mathlib.Decide.{ℕ_discrete}
 use Rattle.bus_model.specs.declared.transfer.Transfer.{Transfer}
 use Rattle.bus_model.specs.declared.transfer.Started.{Started}
 use Rattle.bus_model.specs.Engines.{started_of}
 use Rattle.prompt_meaning.specs.Device.{record_of, without}
-use Rattle.overlap_memory.specs.Tied.{with_list, lists_of, TagsApart}
+use Rattle.transfer_records.specs.Found.{HasPlaces}
+use Rattle.overlap_memory.specs.Tied.{with_list, lists_of, TagsApart, IsPlaced}
 
 pub both_ways : (b : Bool) → b ≡ true → b ≡ false → ⊥
 both_ways b x y = cc
@@ -128,3 +129,7 @@ tags_without (t ∷ ts) tag apart = elim (ℕ_discrete t.tag tag) [
   | yes p ↦ subst TagsApart (sym (if_true (nat_eq t.tag tag) ts (t ∷ without tag ts) (eq-eqb t.tag tag p))) apart.1
   | no n ↦ subst TagsApart (sym (if_false (nat_eq t.tag tag) ts (t ∷ without tag ts) (ne_eqb t.tag tag n))) (record_without ts tag t.tag n ∙ apart.0, tags_without ts tag apart.1)
 ]
+
+-- places among so many words can be computed
+pub have_places : (words : ℕ) → words ≤ 2 ^ 32 → (ts : List Transfer) → All (IsPlaced words) ts → All HasPlaces ts
+have_places words few ts h = λ k d lt. (let p = h k d lt in record { some_chunk = p.some_chunk; fit = λ e below. (let w = p.within e below in omega (arith, few, w)) })

@@ -1,6 +1,5 @@
 // The memory, and what actions do to it.
-ghost use Rattle.std.specs.Prelude.{◌≡◌, [], List, ℕ, ℤ, ◌+◌, ◌<◌, ◌≤◌, ◌^◌, false, length, Some, None, IfOk};
-ghost use Rattle.std.specs.Prelude.{vec_capacity};
+ghost use Rattle.std.specs.Prelude.{◌≡◌, [], List, ℕ, ℤ, ◌<◌, ◌^◌, false, length, Some, None, IfOk};
 ghost use Rattle.std.specs.List.{All, remove};
 ghost use Rattle.int_ops.specs.Wrapped.{wrapped};
 ghost use Rattle.affine_ast.specs.declared.types.Element.{Element as TheElement};
@@ -13,15 +12,12 @@ ghost use Rattle.direct_meaning.specs.Actions.{half_cells};
 ghost use Rattle.direct_meaning.specs.Direct.{End};
 ghost use Rattle.prompt_meaning.specs.Device.{Device, is_started, is_away, has_away, has_started, start_races, started};
 ghost use Rattle.prompt_meaning.specs.Device.{record_of, without, bytes_of, released};
-ghost use Rattle.prompt_meaning.specs.Prompt.{prompt_load, prompt_store, prompt_start, prompt_alloc, wait_on, refused};
+ghost use Rattle.prompt_meaning.specs.Prompt.{prompt_store, prompt_start, prompt_alloc, wait_on, refused};
 ghost use Rattle.overlap_memory.specs.Tied.{Tied, FastShape, IsAllocated, HasCells, Follows, FollowsTo, Gives, CanStart};
 ghost use Rattle.overlap_memory.specs.Tied.{memref_at, half_at, tag_of, with_allocated, with_released};
 ghost use Rattle.overlap_memory.specs.First.{IsFirst, shape_at_first};
 
-use crate::records::{
-    first, forget, has_away, has_started, is_away, is_started, load_races, position, start_races,
-    store_races,
-};
+use crate::records::{first, forget, position};
 use crate::waiting::wait_for;
 use bus_model::{FaultKind, Transfer};
 use dma_engine::Gate;
@@ -29,6 +25,9 @@ use fast_halves::Halves;
 use std::alloc::{AllocError, Global};
 use std::sync::Wait;
 use tag_table::{Bus, ComputeSeat, EngineSeat, Parcel};
+use transfer_records::{
+    has_away, has_started, is_away, is_started, load_races, start_races, store_races,
+};
 
 /// The compute thread's memory: its seat, engine 0, the halves of each fast memref of the text, the outstanding
 /// transfers in the order of their starts, and the live bytes.

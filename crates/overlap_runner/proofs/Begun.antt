@@ -41,7 +41,8 @@ use Rattle.overlap_memory.specs.First.{IsFirst, shape_at_first}
 use Rattle.overlap_memory.proofs.Begins.{first_is_first}
 use Rattle.overlap_runner.specs.declared.device.Device.{Device}
 use Rattle.overlap_runner.specs.Preparation.{IsProgramOf, Run, RunsPromptly, Begun, IsPrepared}
-use Rattle.overlap_runner.specs.Rooms.{HasRoom, HaveRooms, AreRooms}
+use Rattle.fast_rooms.specs.Rooms.{HasRoom, HaveRooms}
+use Rattle.overlap_runner.specs.Rooms.{AreRooms}
 use Rattle.overlap_runner.specs.Runs.{StandsAt, Stands, Ends, EndsFrom}
 
 -- ---- the halves

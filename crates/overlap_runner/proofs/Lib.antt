@@ -2,5 +2,4 @@ pub mod Ties
 pub mod Outcomes
 pub mod Taken
 pub mod Loop
-pub mod Adding
 pub mod Begun

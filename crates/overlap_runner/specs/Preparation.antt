@@ -23,7 +23,7 @@ use Rattle.overlap_memory.specs.Tied.{Tied, FastShape}
 use Rattle.overlap_memory.specs.First.{IsFirst, shape_at_first}
 use Rattle.fast_halves.specs.Shape.{HalvesShape}
 use Rattle.prompt_meaning.specs.Device as model
-use Rattle.overlap_runner.specs.Rooms.{HaveRooms}
+use Rattle.fast_rooms.specs.Rooms.{HaveRooms}
 use Rattle.overlap_runner.specs.declared.device.Device.{Device}
 use Rattle.overlap_runner.specs.Runs.{StandsAt}
 

@@ -11,11 +11,11 @@ ghost use Rattle.overlap_memory.specs.Tied.{FastShape, with_allocated, with_rele
 ghost use Rattle.overlap_runner.specs.Held.{Ready, shape_after};
 ghost use Rattle.overlap_runner.specs.Follow.{Follows, Same};
 
-use crate::bytes::{bytes_of, wrap};
 use crate::places::{load, store};
 use affine_ast::Element;
 use bus_model::{FaultKind, Transfer};
 use dma_engine::Gate;
+use fast_rooms::{bytes_of, wrap};
 use overlap_memory::Memory;
 use run_parts::{Effect, Registers};
 use std::sync::Wait;

@@ -7,9 +7,7 @@
 //! the last action, and behind a fault, every transfer that is outstanding is served and taken back before the words are read.
 #![tactic(auto)]
 
-mod bytes;
 mod device;
-mod halves;
 mod places;
 mod prepared;
 mod run;

@@ -10,11 +10,11 @@ ghost use Rattle.direct_meaning.specs.Memory.{Fits};
 ghost use Rattle.overlap_runner.specs.Preparation.{IsProgramOf, Begun, RunsPromptly};
 
 use crate::device::Device;
-use crate::halves::add_memrefs;
 use crate::run::run_beside;
 use affine_ast::{Cells, Image, Verified};
 use bus_model::Verdict;
 use dma_engine::Gate;
+use fast_rooms::add_memrefs;
 use nest_walk::Walk;
 use overlap_memory::Memory;
 use run_parts::{Registers, copies, flat, refill};

@@ -1,5 +1,5 @@
 -- An action does the same to two states that agree.
-use Rattle.std.proofs.Common.{◌≡◌, ℕ, zero, suc, ◌+◌, ◌<◌, ◌≤◌, ◌^◌, ℤ, pos, Bool, true, false, List, [], ◌∷◌, length, refl, sym, ap, ◌∙◌, subst, arith, Result, Ok, Err}
+use Rattle.std.proofs.Common.{◌≡◌, ℕ, suc, ◌+◌, ◌<◌, ◌≤◌, ℤ, pos, Bool, true, false, List, length, refl, sym, ap, ◌∙◌, arith, Result, Ok, Err}
 use Rattle.std.specs.Prelude.{◌&&◌, Option, Some, None, nat_eq, nat_le, slice_index_or, slice_set, if◌then◌else◌}
 use Rattle.affine_ast.specs.declared.name.Name.{Name}
 use Rattle.affine_ast.specs.declared.types.Element.{Element}
@@ -7,20 +7,18 @@ use Rattle.int_ops.specs.Operation.{operation}
 use Rattle.bus_model.specs.Copies.{moved_in, moved_out}
 use Rattle.bus_model.specs.declared.step.FaultKind.{FaultKind}
 use Rattle.bus_model.specs.declared.step.FaultKind.TheVariants.{Touched, Race, Tag, Capacity, Shape}
-use Rattle.bus_model.specs.declared.step.Verdict.{Verdict}
 use Rattle.bus_model.specs.declared.transfer.Transfer.{Transfer}
 use Rattle.direct_meaning.specs.Action.{Place, Slow, Fast, Outside, Action, Known, Sets, Loads, Stores, RawLoads, RawStores, Operates, Converts, Allocates, Releases, AllocatesTags, ReleasesTags, Starts, Waits, Faults, Returns}
-use Rattle.direct_meaning.specs.Direct.{Outcome, End, Fault, then_do, folded, State, state_of, verdict_of, read, keep, write, keep_result, raw_place, direct_step}
-use Rattle.direct_meaning.proofs.Laws.{folded-nil, folded-cons}
+use Rattle.direct_meaning.specs.Direct.{Outcome, End, Fault, State, state_of, read, keep, keep_result, raw_place, direct_step}
 use Rattle.prompt_meaning.specs.Device.{Device, bytes_of, put_half, put_halves, fresh_half, allocated, released, is_away, has_away, is_started, has_started, load_races, store_races, start_races, copied_in, copied_out, recorded, started, record_of, without}
-use Rattle.prompt_meaning.specs.Prompt.{carried, refused, prompt_load, prompt_store, prompt_alloc, prompt_start, wait_on, acts, prompt_step}
+use Rattle.prompt_meaning.specs.Prompt.{carried, refused, prompt_load, prompt_store, prompt_alloc, wait_on, acts, prompt_step}
 use Rattle.prompt_meaning.proofs.Laws.{half_same, half_other, halves_same, halves_other, count_step}
 use Rattle.run_parts.specs.declared.effect.Effect.{Effect}
 use Rattle.run_parts.specs.declared.effect.Effect.TheVariants as effect
 use Rattle.run_parts.specs.Effects.{effect_meant}
 use Rattle.run_parts.specs.Settled.{settled_result, settled}
 use Rattle.prompt_laws.specs.Costs.{cost}
-use Rattle.prompt_laws.specs.Reaches.{HalfIn, PlaceIn, StartIn, Reaches}
+use Rattle.prompt_laws.specs.Reaches.{HalfIn, PlaceIn, Reaches}
 use Rattle.prompt_laws.specs.Rooms.{Room, room_at}
 use Rattle.prompt_run.specs.Held.{Agrees}
 use Rattle.prompt_run.specs.Takes.{TakesWithin}

@@ -1,18 +1,11 @@
 -- Halves of fast memrefs, as parts of the memrefs' cells.
-use Rattle.std.proofs.Common.{◌≡◌, ◌⊎◌, inl, inr, ⊎_elim, ℕ, zero, suc, ◌+◌, ◌*◌, ◌-◌, ◌<◌, ◌≤◌, ℤ, pos, Bool, true, false, List, [], ◌∷◌, ◌++◌, length, take, drop, drop-cons, get_or, set, map, refl, sym, ap, ◌∙◌, subst, arith, length-set}
+use Rattle.std.proofs.Common.{◌≡◌, ◌⊎◌, inl, inr, ⊎_elim, ℕ, zero, suc, ◌+◌, ◌*◌, ◌<◌, ◌≤◌, ℤ, pos, Bool, true, false, List, [], ◌∷◌, ◌++◌, length, take, drop, get_or, set, refl, sym, ap, ◌∙◌, subst, arith, length-set}
 use mathlib.Core.Path.{fun_ext}
-use Rattle.std.specs.Prelude.{◌&&◌, fold, nat_eq, replicate, Option, Some, None}
+use Rattle.std.specs.Prelude.{◌&&◌, fold, nat_eq, replicate, Some}
 use Rattle.std.specs.List.{range_with_len}
 use Rattle.std.proofs.lemmas.Bool.{and_parts, eq-eqb}
-use Rattle.std.proofs.lemmas.List.{get_or-take, get_or-drop, take-append-drop}
+use Rattle.std.proofs.lemmas.List.{get_or-take, get_or-drop}
 use Rattle.std.proofs.lemmas.List.Sums.{fold-append}
-use Rattle.affine_ast.specs.declared.types.Element.{Element}
-use Rattle.affine_ast.specs.declared.types.Element.TheVariants.{I8, I16, I32, I64}
-use Rattle.affine_ast.specs.Sizes.{element_bits, product}
-use Rattle.int_ops.specs.declared.operation.CastKind.TheVariants.{Index}
-use Rattle.int_ops.specs.Cast.{cast_value}
-use Rattle.int_ops.specs.Wrapped.{InRange, wrapped}
-use Rattle.int_ops.proofs.Wraps.{wrapped_kept}
 use Rattle.bus_model.specs.declared.transfer.Transfer.{Transfer}
 use Rattle.bus_model.specs.Copies.{number_at, first_in, first_out}
 use Rattle.bus_model.specs.Places.{slow_place}
@@ -20,16 +13,7 @@ use Rattle.prompt_meaning.specs.Device.{put_half}
 use Rattle.prompt_meaning.proofs.Laws.{half_same, half_other}
 use Rattle.prompt_laws.specs.Rooms.{Room}
 use Rattle.prompt_run.specs.declared.fast.FastMemref.{FastMemref}
-use Rattle.prompt_run.specs.Memrefs.{half_in, memref_at, halves_at, CellIn, FillsHalves, HasRoom, AreRooms}
-
--- ---- a number taken into a range
-
-pub wraps : (element : Element) (z : ℤ) → InRange 64 z → cast_value Index 64 (element_bits element) z ≡ wrapped (element_bits element) z
-unfolding cast_value
-wraps I8 z h = refl
-wraps I16 z h = refl
-wraps I32 z h = refl
-wraps I64 z h = sym (wrapped_kept 64 z (omega arith) h)
+use Rattle.prompt_run.specs.Memrefs.{half_in, memref_at, halves_at, CellIn, FillsHalves, AreRooms}
 
 -- ---- parts of a list
 
@@ -236,15 +220,6 @@ pub memref_there : (fs : List FastMemref) (n : ℕ) (d : FastMemref) → n < len
 memref_there [] n d h = absurd (omega (arith, h))
 memref_there (f ∷ fs) zero d h = refl
 memref_there (f ∷ fs) (suc n) d h = memref_there fs n d (omega (arith, h))
-
--- ---- sizes
-
-pub sizes_more : (ns : List ℕ) (k c d : ℕ) → k < length ns → d ≡ c * get_or ns k 0 → c * product (drop k ns) ≡ product ns → d * product (drop (k + 1) ns) ≡ product ns
-sizes_more ns k c d h e f =
-    let next : suc k ≡ k + 1 = omega arith in
-    let split : product (drop k ns) ≡ get_or ns k 0 * product (drop (k + 1) ns) = ap product (drop-cons ns k 0 h ∙ ap (λ j. get_or ns k 0 ∷ drop j ns) next) in
-    let times : (c * get_or ns k 0) * product (drop (k + 1) ns) ≡ c * (get_or ns k 0 * product (drop (k + 1) ns)) = grind arith in
-    ap (λ x. x * product (drop (k + 1) ns)) e ∙ times ∙ ap (λ x. c * x) (sym split) ∙ f
 
 -- ---- a cell of a memref in a list
 

@@ -1,4 +1,3 @@
-pub mod Found
 pub mod Copying
 pub mod Agreement
 pub mod Starting

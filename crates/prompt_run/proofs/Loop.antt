@@ -1,14 +1,13 @@
 -- One action of a run, taken by the code.
-use Rattle.std.proofs.Common.{◌≡◌, ℕ, suc, ◌+◌, ◌<◌, ◌≤◌, ◌^◌, ℤ, Bool, true, false, List, [], ◌∷◌, length, refl, sym, ap, ◌∙◌, subst, arith, Result, Ok, Err}
+use Rattle.std.proofs.Common.{◌≡◌, ℕ, suc, ◌+◌, ◌<◌, ◌≤◌, ◌^◌, ℤ, List, [], ◌∷◌, length, refl, sym, ap, ◌∙◌, subst, arith, Result, Ok, Err}
 use Rattle.std.specs.Prelude.{Option, Some, None}
 use Rattle.affine_ast.specs.declared.name.Name.{Name}
 use Rattle.int_ops.specs.Operation.{operation}
 use Rattle.bus_model.specs.Places.{slow_place}
 use Rattle.bus_model.specs.declared.step.FaultKind.{FaultKind}
-use Rattle.bus_model.specs.declared.step.Verdict.{Verdict}
 use Rattle.bus_model.specs.declared.step.Verdict.TheVariants as verdict
 use Rattle.direct_meaning.specs.Action.{Place, Slow, Fast, Outside, Action, Known, Sets, Loads, Stores, RawLoads, RawStores, Operates, Converts, Allocates, Releases, AllocatesTags, ReleasesTags, Starts, Waits, Faults, Returns}
-use Rattle.direct_meaning.specs.Direct.{Outcome, End, Fault, then_do, folded, state_of, verdict_of, read}
+use Rattle.direct_meaning.specs.Direct.{Outcome, End, Fault, then_do, folded, state_of, read}
 use Rattle.direct_meaning.proofs.Laws.{folded-nil, folded-cons}
 use Rattle.prompt_meaning.specs.Device as model
 use Rattle.prompt_meaning.specs.Prompt.{acts, prompt_step}
@@ -21,8 +20,8 @@ use Rattle.run_parts.specs.Registered.{values_of}
 use Rattle.run_parts.specs.Settled.{settled_result, settled, CanSettle}
 use Rattle.prompt_laws.specs.Along.{Along}
 use Rattle.prompt_laws.specs.Costs.{cost, costs}
-use Rattle.prompt_laws.specs.Reaches.{HalfIn, PlaceIn, StartIn, Reaches, CanAct, FlightsFit}
-use Rattle.prompt_laws.specs.Rooms.{Room, room_at}
+use Rattle.prompt_laws.specs.Reaches.{HalfIn, PlaceIn, Reaches, CanAct, FlightsFit}
+use Rattle.prompt_laws.specs.Rooms.{Room}
 use Rattle.prompt_run.specs.declared.device.Device.{Device}
 use Rattle.prompt_run.specs.Held.{device_at, Agrees, Reached, Same}
 use Rattle.prompt_run.specs.Memrefs.{AreRooms}

@@ -1,6 +1,6 @@
 -- A valid module, run from a memory that fits it.
-use Rattle.std.proofs.Common.{◌≡◌, ℕ, zero, suc, ◌+◌, ◌*◌, ◌<◌, ◌≤◌, ◌^◌, ℤ, pos, List, [], ◌∷◌, ◌++◌, length, take, drop, refl, sym, ap, ◌∙◌, subst, arith}
-use Rattle.std.specs.Prelude.{Option, Some, None, vec_capacity}
+use Rattle.std.proofs.Common.{◌≡◌, ℕ, zero, suc, ◌*◌, ◌<◌, ◌≤◌, ◌^◌, ℤ, List, [], ◌∷◌, length, take, drop, sym, ap, ◌∙◌, subst, arith}
+use Rattle.std.specs.Prelude.{vec_capacity}
 use Rattle.affine_ast.specs.declared.image.Cells.{Cells}
 use Rattle.affine_ast.specs.declared.image.Image.{Image}
 use Rattle.affine_ast.specs.declared.module.Arg.{Arg}
@@ -10,12 +10,11 @@ use Rattle.affine_ast.specs.Validity.{IsValid}
 use Rattle.bus_model.specs.declared.step.Verdict.{Verdict}
 use Rattle.direct_meaning.specs.Action.{Action}
 use Rattle.direct_meaning.specs.Actions.{actions}
-use Rattle.direct_meaning.specs.Direct.{Outcome, first_state, folded, verdict_of, state_of}
-use Rattle.direct_meaning.specs.Memory.{Fits, start_env, module_actions, slow_list}
-use Rattle.direct_meaning.specs.Static.{Env}
+use Rattle.direct_meaning.specs.Direct.{Outcome, folded, verdict_of, state_of}
+use Rattle.direct_meaning.specs.Memory.{Fits, start_env, module_actions}
 use Rattle.direct_meaning.specs.Work.{work}
 use Rattle.prompt_meaning.specs.Device as model
-use Rattle.prompt_meaning.specs.Prompt.{prompt_step, first_device, prompt, prompt_slow}
+use Rattle.prompt_meaning.specs.Prompt.{prompt_step, first_device, prompt}
 use Rattle.valid_laws.specs.Safe.{SafeNest}
 use Rattle.valid_laws.proofs.SafeStart.{valid_safe}
 use Rattle.run_laws.specs.StaysFitting.{refilled}
@@ -23,13 +22,12 @@ use Rattle.prompt_laws.specs.Along.{Along}
 use Rattle.prompt_laws.specs.Costs.{costs}
 use Rattle.prompt_laws.specs.Law.{RunsPromptly}
 use Rattle.prompt_laws.specs.Reaches.{CanAct}
-use Rattle.prompt_laws.specs.Rooms.{Room, room_at, rooms_in, module_rooms}
+use Rattle.prompt_laws.specs.Rooms.{Room, room_at, rooms_in}
 use Rattle.prompt_laws.proofs.Conclusions.{runs_promptly}
 use Rattle.prompt_run.specs.declared.device.Device.{Device}
 use Rattle.prompt_run.specs.declared.fast.FastMemref.{FastMemref}
-use Rattle.prompt_run.specs.declared.prompt.Prompt.{Prompt}
-use Rattle.prompt_run.specs.Held.{device_at, Agrees}
-use Rattle.prompt_run.specs.Memrefs.{half_in, memref_at, halves_at, HasRoom, AreRooms}
+use Rattle.prompt_run.specs.Held.{device_at}
+use Rattle.prompt_run.specs.Memrefs.{halves_at, AreRooms}
 use Rattle.prompt_run.specs.Runs.{StandsAt}
 use Rattle.prompt_run.specs.Takes.{EndsWithin, RunsPrompt}
 

@@ -1,6 +1,6 @@
 -- Allocations, starts and waits, by what the code finds.
-use Rattle.std.proofs.Common.{◌≡◌, ℕ, zero, suc, ◌+◌, ◌*◌, ◌-◌, ◌<◌, ◌≤◌, max, ℤ, pos, Bool, true, false, List, [], ◌∷◌, ◌++◌, length, take, drop, get_or, refl, sym, ap, ◌∙◌, subst, arith, Result, Ok, Err}
-use Rattle.std.specs.Prelude.{nat_eq, nat_le, replicate, Option, Some, None, slice_get, if◌then◌else◌}
+use Rattle.std.proofs.Common.{◌≡◌, ℕ, zero, suc, ◌+◌, ◌*◌, ◌<◌, ◌≤◌, ℤ, Bool, true, false, List, [], ◌∷◌, ◌++◌, length, take, drop, get_or, refl, sym, ap, ◌∙◌, subst, arith, Ok, Err}
+use Rattle.std.specs.Prelude.{nat_eq, nat_le, replicate, Some, if◌then◌else◌}
 use Rattle.std.specs.List.{remove}
 use Rattle.std.proofs.lemmas.List.{drop_all, take_all, append-nil}
 use Rattle.std.proofs.lemmas.Option.{slice_get-get_or}
@@ -8,22 +8,20 @@ use Rattle.std.proofs.lemmas.Bool.{le-leb, leb-true, eq-eqb}
 use Rattle.affine_ast.specs.declared.types.Element.{Element}
 use Rattle.affine_ast.specs.Sizes.{element_bits}
 use Rattle.int_ops.specs.Wrapped.{wrapped}
-use Rattle.bus_model.specs.declared.step.FaultKind.{FaultKind}
 use Rattle.bus_model.specs.declared.step.FaultKind.TheVariants.{Touched, Race, Tag, Capacity, Shape}
 use Rattle.bus_model.specs.declared.transfer.Transfer.{Transfer}
 use Rattle.direct_meaning.specs.Action.{Place, Slow, Fast, Outside}
 use Rattle.direct_meaning.specs.Actions.{half_cells}
-use Rattle.direct_meaning.specs.Direct.{Outcome, End, Fault}
+use Rattle.direct_meaning.specs.Direct.{End, Fault}
 use Rattle.prompt_meaning.specs.Device as model
 use Rattle.prompt_meaning.specs.Device.{bytes_of, put_halves, fresh_half, allocated, is_away, is_started, start_races, copied_in, copied_out, recorded, started, record_of, without}
 use Rattle.prompt_meaning.specs.Prompt.{refused, prompt_alloc, prompt_start, wait_on}
 use Rattle.prompt_meaning.proofs.Laws.{halves_same, halves_other}
-use Rattle.prompt_laws.specs.Reaches.{HalfIn, PlaceIn, StartIn}
+use Rattle.prompt_laws.specs.Reaches.{PlaceIn, StartIn}
 use Rattle.prompt_laws.specs.Rooms.{Room, room_of, room_at}
-use Rattle.prompt_run.specs.declared.device.Device.{Device}
 use Rattle.prompt_run.specs.declared.fast.FastMemref.{FastMemref}
-use Rattle.prompt_run.specs.Found.{Finds}
-use Rattle.prompt_run.specs.Held.{device_at, Agrees, PlaceReached, TransferReached}
+use Rattle.transfer_records.specs.Found.{Finds}
+use Rattle.prompt_run.specs.Held.{PlaceReached, TransferReached}
 use Rattle.prompt_run.specs.Memrefs.{memref_at, halves_at, CellIn, FillsHalves, HasRoom, AreRooms}
 use Rattle.prompt_run.specs.Steps.{copied}
 use Rattle.prompt_run.specs.Takes.{TakesWithin}

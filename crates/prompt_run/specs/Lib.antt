@@ -1,5 +1,4 @@
 pub mod Memrefs
-pub mod Found
 pub mod Held
 pub mod Steps
 pub mod Takes

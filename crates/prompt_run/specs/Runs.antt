@@ -1,5 +1,5 @@
 -- Where a run stands: what a device holds, against a state of the prompt meaning with the actions that are left.
-use Rattle.std.specs.Prelude.{◌≡◌, ℕ, ◌+◌, ◌≤◌, ◌^◌, ℤ, List, vec_capacity}
+use Rattle.std.specs.Prelude.{◌+◌, ◌≤◌, ◌^◌, List, vec_capacity}
 use Rattle.direct_meaning.specs.Action.{Action}
 use Rattle.prompt_meaning.specs.Device as model
 use Rattle.prompt_meaning.specs.Prompt.{prompt_step}

@@ -1,10 +1,7 @@
 // The registers and memories of a run, and what an effect does to them.
-ghost use Rattle.std.specs.Prelude.{◌≡◌, ℕ, ◌+◌, ◌*◌, ◌-◌, ◌<◌, ◌≤◌, ◌^◌, pos, List, length, All, vec_capacity, IfOk, slice_index_or};
-ghost use Rattle.affine_ast.specs.Sizes.{element_bits, product};
-ghost use Rattle.int_ops.specs.Wrapped.{IsWidth, wrapped};
+ghost use Rattle.std.specs.Prelude.{◌≡◌, ℕ, ◌+◌, ◌-◌, ◌<◌, ◌≤◌, ◌^◌, List, length};
 ghost use Rattle.bus_model.specs.Copies.{moved_in, moved_out};
-ghost use Rattle.direct_meaning.specs.Static.{element_bytes};
-ghost use Rattle.prompt_meaning.specs.Device.{bytes_of, put_half};
+ghost use Rattle.prompt_meaning.specs.Device.{put_half};
 ghost use Rattle.direct_meaning.specs.Action as meaning;
 ghost use Rattle.direct_meaning.specs.Direct.{End};
 ghost use Rattle.prompt_meaning.specs.Prompt.{acts, prompt_step, refused, prompt_load, prompt_store, prompt_alloc, prompt_start, wait_on};
@@ -17,15 +14,17 @@ ghost use Rattle.prompt_laws.specs.Rooms.{Room, room_of, room_at};
 ghost use Rattle.prompt_laws.specs.Costs.{cost};
 ghost use Rattle.prompt_laws.specs.Reaches.{SizesFit, FlightsFit, Reaches};
 ghost use Rattle.prompt_run.specs.Held.{device_at, PlaceReached, TransferReached, Reached, Same};
-ghost use Rattle.prompt_run.specs.Memrefs.{halves_at, CellIn, AreRooms};
+ghost use Rattle.prompt_run.specs.Memrefs.{halves_at, AreRooms};
 ghost use Rattle.prompt_run.specs.Takes.{Takes, TakesWithin};
 
 use crate::fast::{FastMemref, cell_of, fill_all, put_cell};
-use crate::flights::{find, has_away, has_started, is_away, load_races, start_races, store_races};
 use affine_ast::Element;
 use bus_model::{FaultKind, Transfer};
-use int_ops::{CastKind, cast};
+use fast_rooms::{bytes_of, wrap};
 use run_parts::{Effect, Registers};
+use transfer_records::{
+    find, has_away, has_started, is_away, load_races, start_races, store_races,
+};
 use walk_actions::Place;
 
 /// The values of names, the slow memory, the cells of the fast memrefs by number, the transfers that are started and not yet waited for,
@@ -42,58 +41,6 @@ pub(crate) struct Device<'p> {
     pub(crate) actions: u64,
     pub(crate) engine_steps: u64,
     pub(crate) peak: u64,
-}
-
-fn bits(element: Element) -> u32
-    ensures bits { result ≡ element_bits element }
-    ensures width { IsWidth result }
-{
-    match element {
-        Element::I8 => 8,
-        Element::I16 => 16,
-        Element::I32 => 32,
-        Element::I64 => 64,
-    }
-}
-
-fn bytes(element: Element) -> u64
-    ensures bytes { result ≡ element_bytes element }
-    ensures few { result ≤ 8 }
-{
-    match element {
-        Element::I8 => 1,
-        Element::I16 => 2,
-        Element::I32 => 4,
-        Element::I64 => 8,
-    }
-}
-
-/// How many elements there are.
-fn count(sizes: &[u32]) -> u64
-    requires { SizesFit sizes.now }
-    ensures { result ≡ product sizes.now }
-{
-    let mut count = 1u64;
-    for size in sizes {
-        count *= *size as u64;
-    }
-    count
-}
-
-/// The bytes of a fast memref.
-fn bytes_of(element: Element, sizes: &[u32]) -> u64
-    requires { SizesFit sizes.now }
-    ensures bytes { result ≡ bytes_of element sizes.now }
-    ensures few { result ≤ 2 ^ 27 }
-{
-    count(sizes) * bytes(element)
-}
-
-/// A number taken into the signed range of an element.
-fn wrap(filler: i64, element: Element) -> i64
-    ensures { result ≡ wrapped (element_bits element) filler }
-{
-    cast(CastKind::Index, 64, bits(element), filler)
 }
 
 /// Copies all elements of a transfer into its half.

@@ -1,5 +1,5 @@
 // The cells of fast memrefs.
-ghost use Rattle.std.specs.Prelude.{◌≡◌, ℕ, ◌+◌, ◌*◌, ◌<◌, ◌≤◌, ◌++◌, pos, List, length, replicate, IfOk, IfSome, slice_index_or, slice_set};
+ghost use Rattle.std.specs.Prelude.{◌≡◌, ℕ, ◌+◌, ◌*◌, ◌<◌, ◌++◌, pos, List, length, replicate, IfOk, IfSome, slice_index_or, slice_set};
 ghost use Rattle.affine_ast.specs.declared.name.Name.{Name};
 ghost use Rattle.affine_ast.specs.Sizes.{product};
 ghost use Rattle.prompt_meaning.specs.Device.{put_half};

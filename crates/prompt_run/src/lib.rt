@@ -8,7 +8,6 @@
 
 mod device;
 mod fast;
-mod flights;
 mod prompt;
 
 pub use prompt::{Prompt, run_prompt};

@@ -1,2 +1,2 @@
-pub mod Found
-pub mod Sizes
+mod Apart
+mod Found

@@ -1,12 +1,13 @@
-//! What an executor with fast memory asks of the records of its outstanding transfers, and of the sizes of a fast memref.
+//! What an executor with transfers asks of the records of those that are outstanding.
 //!
-//! Each test is `prompt_meaning`'s, told exactly: which slow place races with which transfer, which half is away, which tag is
-//! started. So are the bytes of a fast memref and the filler taken into its element's range. The crate stands on
-//! `prompt_laws`, whose premises its callers know, and takes no memory.
+//! Each test is `prompt_meaning`'s, told exactly: which slow place races with which transfer, which half is away, which tag
+//! is started. Whether a transfer has a place is told by its base, its stride and its chunk, and not by going over its
+//! elements; two transfers whose places lie apart as a whole are told apart at once. The crate takes no memory.
 #![tactic(auto)]
 
-mod numbers;
+mod meeting;
 mod records;
 
-pub use numbers::{bytes_of, wrap};
-pub use records::{find, has_away, has_started, is_away, load_races, start_races, store_races};
+pub use records::{
+    find, has_away, has_started, is_away, is_started, load_races, start_races, store_races,
+};

@@ -1,35 +1,33 @@
 // What is asked of the outstanding transfers.
-ghost use Rattle.std.specs.Prelude.{◌≡◌, ℕ, ◌<◌, ◌≤◌, ◌^◌, Some, None, length, IfSome};
-ghost use Rattle.bus_model.specs.Places.{slow_place};
-ghost use Rattle.prompt_meaning.specs.Device.{is_away, has_away, is_started, has_started, load_races, store_races, start_races, record_of};
-ghost use Rattle.direct_meaning.specs.Transfers.{overlap};
-ghost use Rattle.prompt_laws.specs.Reaches.{FlightsFit, FlightFits};
-ghost use Rattle.transfer_records.specs.Found.{Finds};
+ghost use Rattle.std.specs.Prelude.{◌≡◌};
+ghost use Rattle.std.specs.List.{All};
+ghost use Rattle.prompt_meaning.specs.Device.{is_away, has_away, is_started, has_started, load_races, store_races, start_races};
+ghost use Rattle.transfer_records.specs.Found.{Finds, HasPlaces};
 
-use bus_model::{Transfer, meets};
+use crate::meeting::{has_place, overlap};
+use bus_model::Transfer;
 
 /// Whether a half is away.
 pub fn is_away(outstanding: &[Transfer], number: u32, half: u32) -> bool
     ensures { result ≡ is_away outstanding.now number half }
 {
-    for transfer in outstanding {
-        if transfer.fast == number && transfer.half == half {
-            return true;
-        }
-    }
-    false
+    outstanding
+        .iter()
+        .any(|t| t.fast == number && t.half == half)
 }
 
 /// Whether some half of a fast memref is away.
 pub fn has_away(outstanding: &[Transfer], number: u32) -> bool
     ensures { result ≡ has_away outstanding.now number }
 {
-    for transfer in outstanding {
-        if transfer.fast == number {
-            return true;
-        }
-    }
-    false
+    outstanding.iter().any(|t| t.fast == number)
+}
+
+/// Whether a tag is started.
+pub fn is_started(outstanding: &[Transfer], tag: u32) -> bool
+    ensures { result ≡ is_started outstanding.now tag }
+{
+    outstanding.iter().any(|t| t.tag == tag)
 }
 
 /// Where the transfer of a tag stands among these, if the tag is started.
@@ -48,21 +46,19 @@ pub fn find(outstanding: &[Transfer], tag: u32) -> Option<usize>
 pub fn has_started(outstanding: &[Transfer], first: u32, count: u32) -> bool
     ensures { result ≡ has_started outstanding.now first count }
 {
-    for transfer in outstanding {
-        if first <= transfer.tag && (transfer.tag as u64) < first as u64 + count as u64 {
-            return true;
-        }
-    }
-    false
+    let end = first as u64 + count as u64;
+    outstanding
+        .iter()
+        .any(|t| first <= t.tag && (t.tag as u64) < end)
 }
 
 /// Whether a load from a slow place races with one of these.
 pub fn load_races(outstanding: &[Transfer], place: u32) -> bool
-    requires { (size : ℕ) × FlightsFit size outstanding.now }
+    requires { All HasPlaces outstanding.now }
     ensures { result ≡ load_races outstanding.now place }
 {
     for transfer in outstanding {
-        if !transfer.incoming && meets(transfer, place) {
+        if !transfer.incoming && has_place(transfer, place) {
             return true;
         }
     }
@@ -71,25 +67,11 @@ pub fn load_races(outstanding: &[Transfer], place: u32) -> bool
 
 /// Whether a store to a slow place races with one of these.
 pub fn store_races(outstanding: &[Transfer], place: u32) -> bool
-    requires { (size : ℕ) × FlightsFit size outstanding.now }
+    requires { All HasPlaces outstanding.now }
     ensures { result ≡ store_races outstanding.now place }
 {
     for transfer in outstanding {
-        if meets(transfer, place) {
-            return true;
-        }
-    }
-    false
-}
-
-/// Whether two transfers share a slow place.
-fn overlap(one: &Transfer, other: &Transfer) -> bool
-    requires one { (size : ℕ) × FlightFits size one.now }
-    requires other { (size : ℕ) × FlightFits size other.now }
-    ensures { result ≡ overlap one.now other.now }
-{
-    for element in 0..one.count {
-        if meets(other, one.slow(element)) {
+        if has_place(transfer, place) {
             return true;
         }
     }
@@ -98,8 +80,8 @@ fn overlap(one: &Transfer, other: &Transfer) -> bool
 
 /// Whether a start races with one of these.
 pub fn start_races(outstanding: &[Transfer], start: &Transfer) -> bool
-    requires outstanding { (size : ℕ) × FlightsFit size outstanding.now }
-    requires start { (size : ℕ) × FlightFits size start.now }
+    requires outstanding { All HasPlaces outstanding.now }
+    requires start { HasPlaces start.now }
     ensures { result ≡ start_races outstanding.now start.now }
 {
     for transfer in outstanding {

@@ -33,4 +33,4 @@ returns-clause-fits c = λ e.
     let s = setting c.args.module.now.inner c.args.image c.args.filler c.args.capacity c.args.engines in
     let at = subst (λ f. IsAt (setting c.args.module.now.inner c.args.image f c.args.capacity c.args.engines) [] c.in_ok-machine.machine) (to_z-of_z w64 c.args.filler fits) c.in_ok-machine.ensures in
     let r = c.run_by-ran.ensures s at in
-    fits_at_end s c.args.pick _ _ _ r _ (c.into_image.ensures s r.steps r.at) e)
+    fits_at_end s r.steps _ _ r.at r.verdict_is _ (c.into_image.ensures s r.steps r.at) e)

@@ -4,7 +4,7 @@ use Rattle.walk_program.specs.Reading.{nest_of}
 use Rattle.walk_program.specs.Tree.{tree}
 use Rattle.prompt_laws.specs.Rooms.{rooms_in}
 use Rattle.overlap_memory.specs.First.{IsFirst}
-use Rattle.overlap_runner.specs.Rooms.{HaveRooms}
+use Rattle.fast_rooms.specs.Rooms.{HaveRooms}
 use Rattle.overlap_runner.proofs.Begun.{none_away, all_whole, seats_left}
 use Rattle.overlap_runner.proofs.prepared.memory_of.Goals as goal
 

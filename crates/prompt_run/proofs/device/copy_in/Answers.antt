@@ -1,9 +1,7 @@
-use Rattle.std.proofs.Common.{◌≡◌, ◌∙◌, ◌+◌, ap, sym, set, get_or, pos, rules, w64, SFits}
+use Rattle.std.proofs.Common.{◌∙◌, ◌+◌, ap, sym, set, get_or, pos, rules, w64, SFits}
 use Rattle.std.proofs.lemmas.Int.{to_z-of_z}
 use Rattle.bus_model.specs.Copies.{first_in, number_at}
-use Rattle.bus_model.specs.Places.{slow_place}
 use Rattle.prompt_meaning.specs.Device.{put_half}
-use Rattle.prompt_meaning.proofs.Laws.{half_same}
 use Rattle.prompt_run.specs.Memrefs.{halves_at}
 use Rattle.prompt_run.proofs.Copying.{put_none, put_twice, put_here, in_more}
 use Rattle.prompt_run.proofs.device.copy_in.Goals as goal

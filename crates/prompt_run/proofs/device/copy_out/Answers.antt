@@ -1,6 +1,5 @@
-use Rattle.std.proofs.Common.{◌≡◌, ◌∙◌, ap, sym, set, pos, rules, w64, SFits}
+use Rattle.std.proofs.Common.{◌∙◌, sym, set, rules, w64, SFits}
 use Rattle.std.proofs.lemmas.Int.{to_z-of_z}
-use Rattle.bus_model.specs.Copies.{number_at}
 use Rattle.prompt_run.specs.Memrefs.{halves_at}
 use Rattle.prompt_run.proofs.Copying.{out_more}
 use Rattle.prompt_run.proofs.device.copy_out.Goals as goal

@@ -1,4 +1,4 @@
-use Rattle.std.proofs.Common.{◌∙◌, arith, subst, sym, ap}
+use Rattle.std.proofs.Common.{arith, subst}
 use Rattle.prompt_run.proofs.Adding.{AddsAll, AddsForm, if_ok, adds_for, adds_if, adds_both, adds_plain, adds_next, adds_end}
 use Rattle.prompt_run.proofs.fast.+fasts.Goals as goal
 

@@ -1,5 +1,5 @@
 use Rattle.std.proofs.Common.{arith}
-use Rattle.prompt_run.proofs.Copying.{sizes_more}
+use Rattle.fast_rooms.proofs.Sizes.{sizes_more}
 use Rattle.prompt_run.proofs.fast.elements.Goals as goal
 
 pub loop-size-preserved : goal.loop-size-preserved

@@ -1,4 +1,4 @@
-use Rattle.std.proofs.Common.{◌≡◌, ◌∙◌, ap, sym, subst, Ok, Err}
+use Rattle.std.proofs.Common.{◌≡◌, ◌∙◌, sym, subst, Ok, Err}
 use Rattle.walk_actions.specs.Meant.{meant}
 use Rattle.direct_meaning.specs.Direct.{End, Fault}
 use Rattle.run_parts.specs.declared.effect.Effect.TheVariants as effect

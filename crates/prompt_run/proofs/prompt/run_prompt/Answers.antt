@@ -1,4 +1,4 @@
-use Rattle.std.proofs.Common.{◌≡◌, ◌∙◌, ◌≤◌, ap, sym, refl, subst, length, arith, List, [], w64, of_z, to_z}
+use Rattle.std.proofs.Common.{◌∙◌, ◌≤◌, ap, sym, refl, subst, length, arith, [], w64, of_z, to_z}
 use Rattle.std.specs.Prelude.{vec_capacity}
 use Rattle.std.proofs.lemmas.Int.{to_z-of_z}
 use Rattle.direct_meaning.specs.Direct.{folded}

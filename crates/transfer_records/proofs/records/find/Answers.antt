@@ -1,4 +1,4 @@
-use Rattle.std.proofs.Common.{◌≤◌, length, arith, subst, sym, false, ◌≡◌}
+use Rattle.std.proofs.Common.{◌≤◌, length, arith, subst, false, ◌≡◌}
 use Rattle.std.proofs.lemmas.List.{take_all}
 use Rattle.prompt_meaning.specs.Device.{is_started}
 use Rattle.transfer_records.proofs.Found.{found, found_none}

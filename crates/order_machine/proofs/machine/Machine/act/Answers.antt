@@ -1,4 +1,4 @@
-use Rattle.std.proofs.Common.{◌≡◌, ◌∙◌, sym, ap, refl, subst, length, Ok, Err, rules, w64, SFits}
+use Rattle.std.proofs.Common.{◌∙◌, sym, ap, refl, subst, length, Ok, Err, rules, w64, SFits}
 use Rattle.std.proofs.lemmas.Int.{to_z-of_z}
 use Rattle.walk_actions.specs.Meant.{meant, NamesIn}
 use Rattle.prompt_laws.specs.Rooms.{module_rooms}

@@ -1,4 +1,4 @@
-use Rattle.std.proofs.Common.{◌≡◌, ◌∙◌, sym, ap, refl, arith}
+use Rattle.std.proofs.Common.{refl, arith}
 use Rattle.order_machine.proofs.Chosen.{some_number, chooses, number_below}
 use Rattle.order_machine.proofs.machine.Machine.choose.Goals as goal
 

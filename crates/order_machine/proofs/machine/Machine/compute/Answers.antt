@@ -1,5 +1,4 @@
-use Rattle.std.proofs.Common.{◌≡◌, ◌∙◌, sym, ap, subst}
-use Rattle.order_engines.specs.Flying.{flights_of}
+use Rattle.std.proofs.Common.{◌∙◌, sym}
 use Rattle.order_machine.proofs.Moves.{held_still, none_left}
 use Rattle.order_machine.proofs.machine.Machine.compute.Goals as goal
 

@@ -1,4 +1,4 @@
-use Rattle.std.proofs.Common.{◌∙◌, sym, ap, refl, arith, length}
+use Rattle.std.proofs.Common.{arith}
 use Rattle.order_machine.proofs.Moves.{went, stayed}
 use Rattle.order_machine.proofs.machine.Machine.go.Goals as goal
 

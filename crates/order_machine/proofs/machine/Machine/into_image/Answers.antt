@@ -1,4 +1,4 @@
-use Rattle.std.proofs.Common.{◌≡◌, ◌∙◌, sym, ap, length, arith}
+use Rattle.std.proofs.Common.{◌∙◌, sym, ap, length, arith}
 use Rattle.direct_meaning.specs.Memory.{slow_list}
 use Rattle.run_laws.specs.StaysFitting.{refilled}
 use Rattle.affine_ast.specs.declared.image.Image.{Image}

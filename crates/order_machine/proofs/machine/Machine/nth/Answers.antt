@@ -1,4 +1,4 @@
-use Rattle.std.proofs.Common.{◌∙◌, sym, ap, refl}
+use Rattle.std.proofs.Common.{◌∙◌, sym, refl}
 use Rattle.order_machine.proofs.Lists.{going_of, stuck_below, stuck_nth, free_first, free_below, free_nth}
 use Rattle.order_machine.proofs.machine.Machine.nth.Goals as goal
 

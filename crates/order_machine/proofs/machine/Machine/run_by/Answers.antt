@@ -1,4 +1,4 @@
-use Rattle.std.proofs.Common.{◌∙◌, sym, ap, refl}
+use Rattle.std.proofs.Common.{refl}
 use Rattle.order_machine.proofs.Chosen.{ran_none, ran_more, fewer, halts}
 use Rattle.order_machine.proofs.machine.Machine.run_by.Goals as goal
 

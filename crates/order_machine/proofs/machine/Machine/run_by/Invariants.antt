@@ -1,4 +1,4 @@
-use Rattle.std.proofs.Common.{ℕ, List, [], ◌-◌, ◌^◌}
+use Rattle.std.proofs.Common.{[], ◌-◌, ◌^◌}
 use Rattle.order_machine.specs.Standing.{Setting, IsAt}
 use Rattle.order_machine.proofs.Chosen.{Ran}
 use Rattle.order_machine.proofs.machine.Machine.run_by.Given as goal

@@ -1,4 +1,4 @@
-use Rattle.std.proofs.Common.{◌∙◌, sym, ap}
+use Rattle.std.proofs.Common.{sym}
 use Rattle.order_machine.proofs.Lists.{not_past}
 use Rattle.order_machine.proofs.machine.Machine.step_of_engines.Goals as goal
 

@@ -1,4 +1,4 @@
-use Rattle.std.proofs.Common.{◌≡◌, rules, ◌∙◌, refl, sym, ap, subst, arith, w64, Ok, Err}
+use Rattle.std.proofs.Common.{rules, ◌∙◌, refl, sym, ap, subst, arith, w64, Ok, Err}
 use Rattle.std.proofs.lemmas.Int.{to_z-of_z}
 use Rattle.affine_ast.specs.Names.{put}
 use Rattle.direct_meaning.specs.Direct.{direct_step, read}

@@ -2,7 +2,7 @@ use Rattle.std.proofs.Common.{◌∙◌, sym, ap, arith, refl}
 use Rattle.std.specs.Prelude.{slice_get}
 use Rattle.fast_halves.specs.Shape.{HalvesShape}
 use Rattle.order_memory.proofs.Changed.{memref_is, changed_is}
-use Rattle.order_memory.proofs.Starts.{start_there, start_half_there, no_flight, start_room, start_flying_room, few_tags, begins, not_both}
+use Rattle.order_memory.proofs.Starts.{start_there, no_flight, start_room, start_flying_room, few_tags, begins, not_both}
 use Rattle.order_memory.proofs.memory.Memory.begin.Goals as goal
 
 pub index_mut-requires : goal.index_mut-requires

@@ -1,4 +1,4 @@
-use Rattle.std.proofs.Common.{◌≡◌, ◌∙◌, rules, refl, sym, ap, subst, w64, SFits}
+use Rattle.std.proofs.Common.{◌∙◌, rules, refl, sym, ap, subst, w64, SFits}
 use Rattle.std.proofs.lemmas.Int.{to_z-of_z}
 use Rattle.walk_actions.specs.Meant.{meant}
 use Rattle.run_parts.specs.Effects.{effect_meant}

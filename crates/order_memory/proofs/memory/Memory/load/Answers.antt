@@ -1,4 +1,4 @@
-use Rattle.std.proofs.Common.{rules, ◌∙◌, refl, sym, ap, subst, w64}
+use Rattle.std.proofs.Common.{rules, ◌∙◌, refl, ap, w64}
 use Rattle.std.proofs.lemmas.Int.{to_z-of_z}
 use Rattle.affine_ast.specs.Names.{put}
 use Rattle.walk_program.specs.Names.{name_at}

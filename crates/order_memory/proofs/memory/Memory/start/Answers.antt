@@ -1,6 +1,8 @@
-use Rattle.std.proofs.Common.{◌≡◌, ◌∙◌, sym, ap, subst, true, false, length}
+use Rattle.std.proofs.Common.{◌≡◌, ◌∙◌, sym, ap, subst, true, false, length, arith}
 use Rattle.prompt_meaning.specs.Device.{is_started, start_races}
-use Rattle.prompt_laws.specs.Reaches.{FlightsFit}
+use Rattle.std.specs.List.{All}
+use Rattle.transfer_records.specs.Found.{HasPlaces}
+use Rattle.fast_rooms.proofs.Flights.{all_have_places}
 use Rattle.order_memory.proofs.Starts.{start_there, start_half_there, start_cell_there, start_tag, start_touched, start_races_here}
 use Rattle.order_memory.proofs.memory.Memory.start.Goals as goal
 
@@ -17,10 +19,10 @@ returns-then-not-is_here-clause-follows c = λ rooms x t can.
     start_touched rooms x _ t c.args.transfer can idle away.0 away.1)
 
 pub start_races-requires-clause-outstanding : goal.start_races-requires-clause-outstanding
-start_races-requires-clause-outstanding c = let y = c.requires in (length y.1.state.slow, subst (FlightsFit (length y.1.state.slow)) (sym y.2.records ∙ sym c.as_slice-2.ensures.value) y.4)
+start_races-requires-clause-outstanding c = let y = c.requires in subst (All HasPlaces) (sym y.2.records ∙ sym c.as_slice-2.ensures.value) (all_have_places (length y.1.state.slow) _ y.4)
 
 pub start_races-requires-clause-start : goal.start_races-requires-clause-start
-start_races-requires-clause-start c = let y = c.requires in (length y.1.state.slow, record { tag_fits = y.3.tag_fits; some_chunk = y.3.some_chunk; apart = y.3.apart; places = y.3.places; places_fit = y.3.places_fit })
+start_races-requires-clause-start c = let y = c.requires in record { some_chunk = y.3.some_chunk; fit = λ e below. (let k = y.3.places_fit e below in omega (arith, k)) }
 
 pub returns-then-start_races-clause-follows : goal.returns-then-start_races-clause-follows
 returns-then-start_races-clause-follows c = λ rooms x t can.

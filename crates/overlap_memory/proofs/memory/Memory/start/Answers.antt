@@ -1,15 +1,16 @@
 use Rattle.std.proofs.Common.{◌∙◌, sym, ap, subst, arith}
 use Rattle.std.specs.List.{All}
 use Rattle.prompt_meaning.specs.Device.{is_started, is_away, start_races, started}
+use Rattle.overlap_memory.proofs.Lists.{have_places}
 use Rattle.overlap_memory.proofs.Starts.{start_passes}
 use Rattle.overlap_memory.specs.Tied.{IsPlaced}
 use Rattle.overlap_memory.proofs.memory.Memory.start.Goals as goal
 
-pub start_races-requires-clause-records : goal.start_races-requires-clause-records
-start_races-requires-clause-records c = let y = c.requires.tied in (c.args.bus.now.words, (let s = y.2.small in omega (arith, s)), subst (All (IsPlaced c.args.bus.now.words)) (sym y.2.records ∙ sym c.as_slice-3.ensures.value) y.2.placed)
+pub start_races-requires-clause-outstanding : goal.start_races-requires-clause-outstanding
+start_races-requires-clause-outstanding c = let y = c.requires.tied in have_places (c.args.bus.now.words) (let s = y.2.small in omega (arith, s)) _ (subst (All (IsPlaced c.args.bus.now.words)) (sym y.2.records ∙ sym c.as_slice-3.ensures.value) y.2.placed)
 
-pub start_races-requires-clause-transfer : goal.start_races-requires-clause-transfer
-start_races-requires-clause-transfer c = let y = c.requires.tied in (c.args.bus.now.words, (let s = y.2.small in omega (arith, s)), record { some_chunk = c.requires.can.some_chunk; within = c.requires.can.within })
+pub start_races-requires-clause-start : goal.start_races-requires-clause-start
+start_races-requires-clause-start c = let y = c.requires.tied in record { some_chunk = c.requires.can.some_chunk; fit = λ e lt. (let s = y.2.small in let k = c.requires.can.within e lt in omega (arith, s, k)) }
 
 pub returns : goal.returns
 returns c = record {

@@ -7,11 +7,12 @@ use Rattle.direct_meaning.specs.Action.{Slow}
 use Rattle.prompt_meaning.specs.Device.{store_races}
 use Rattle.prompt_meaning.specs.Prompt.{prompt_store}
 use Rattle.overlap_memory.specs.Tied.{IsPlaced, Follows}
+use Rattle.overlap_memory.proofs.Lists.{have_places}
 use Rattle.overlap_memory.proofs.Slow.{clear_of_all, store_follows}
 use Rattle.overlap_memory.proofs.memory.Memory.store_slow.Goals as goal
 
 pub store_races-requires : goal.store_races-requires
-store_races-requires c = let y = c.requires.tied in (c.args.bus.now.words, (let s = y.2.small in omega (arith, s)), subst (All (IsPlaced c.args.bus.now.words)) (sym y.2.records ∙ sym c.as_slice.ensures.value) y.2.placed)
+store_races-requires c = let y = c.requires.tied in have_places (c.args.bus.now.words) (let s = y.2.small in omega (arith, s)) _ (subst (All (IsPlaced c.args.bus.now.words)) (sym y.2.records ∙ sym c.as_slice.ensures.value) y.2.placed)
 
 pub store-requires-clause-clear : goal.store-requires-clause-clear
 store-requires-clause-clear c = let y = c.requires.tied in clear_of_all _ _ _ y.1 y.2 _ (ap (λ ts. store_races ts c.args.place) (sym c.as_slice.ensures.value) ∙ sym c.store_races.ensures ∙ c.if-store_races.false)

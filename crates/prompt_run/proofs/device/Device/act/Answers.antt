@@ -1,4 +1,4 @@
-use Rattle.std.proofs.Common.{◌≡◌, suc, ◌+◌, subst, sym, arith}
+use Rattle.std.proofs.Common.{◌≡◌, suc, ◌+◌, subst, arith}
 use Rattle.prompt_meaning.specs.Prompt.{acts, prompt_step}
 use Rattle.run_parts.specs.Effects.{effect_meant}
 use Rattle.prompt_run.specs.Held.{device_at}

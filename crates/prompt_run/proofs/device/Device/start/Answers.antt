@@ -1,11 +1,19 @@
 use Rattle.std.proofs.Common.{◌≡◌, ◌∙◌, ap, sym, subst, length, false, arith, ◌+◌}
+use Rattle.std.specs.List.{All}
 use Rattle.direct_meaning.specs.Direct.{End}
 use Rattle.prompt_meaning.specs.Device as model
 use Rattle.prompt_meaning.specs.Device.{is_away, is_started, start_races}
 use Rattle.prompt_run.specs.Held.{device_at}
-use Rattle.prompt_run.proofs.Found.{room_for}
+use Rattle.transfer_records.specs.Found.{HasPlaces}
+use Rattle.fast_rooms.proofs.Flights.{all_have_places, room_for}
 use Rattle.prompt_run.proofs.Starting.{transfer_reached, start_done, copied_records}
 use Rattle.prompt_run.proofs.device.Device.start.Goals as goal
+
+pub start_races-requires-clause-outstanding : goal.start_races-requires-clause-outstanding
+start_races-requires-clause-outstanding c = subst (All HasPlaces) (sym c.as_slice-3.ensures.value) (all_have_places (length c.args.self.now.slow.items) _ c.requires.reached.flights)
+
+pub start_races-requires-clause-start : goal.start_races-requires-clause-start
+start_races-requires-clause-start c = let r = c.requires.reached.reaches in record { some_chunk = r.some_chunk; fit = λ e below. (let k = r.places_fit e below in omega (arith, k)) }
 
 pub copy-requires : goal.copy-requires
 copy-requires c = transfer_reached c.requires.reached.rooms c.args.self.now.fasts.items c.requires.reached.are (device_at c.args.self.now) c.args.transfer c.requires.reached.reaches

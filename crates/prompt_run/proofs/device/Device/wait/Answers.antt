@@ -1,8 +1,7 @@
-use Rattle.std.proofs.Common.{◌≡◌, ◌∙◌, ap, sym, refl, subst}
+use Rattle.std.proofs.Common.{◌∙◌, ap, sym, refl, subst}
 use Rattle.std.specs.Prelude.{Some}
 use Rattle.direct_meaning.specs.Direct.{End}
-use Rattle.prompt_meaning.specs.Device as model
-use Rattle.prompt_run.specs.Found.{Finds}
+use Rattle.transfer_records.specs.Found.{Finds}
 use Rattle.prompt_run.specs.Held.{device_at}
 use Rattle.prompt_run.proofs.Starting.{wait_shape, wait_done}
 use Rattle.prompt_run.proofs.device.Device.wait.Goals as goal

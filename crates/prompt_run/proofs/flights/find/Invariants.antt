@@ -1,7 +1,0 @@
-use Rattle.std.proofs.Common.{◌≡◌, take, false}
-use Rattle.prompt_meaning.specs.Device.{is_started}
-use Rattle.prompt_run.proofs.flights.find.Given as goal
-
--- those so far have other tags
-abbrev pub invariant-loop-place : goal.invariant-loop-place
-invariant-loop-place l = is_started (take l.place l.outstanding) l.tag ≡ false

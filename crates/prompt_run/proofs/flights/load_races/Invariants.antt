@@ -1,7 +1,0 @@
-use Rattle.std.proofs.Common.{◌≡◌, drop}
-use Rattle.prompt_meaning.specs.Device.{load_races}
-use Rattle.prompt_run.proofs.flights.load_races.Given as goal
-
--- what is left of the transfers tells it
-abbrev pub invariant-loop-transfer : goal.invariant-loop-transfer
-invariant-loop-transfer l = load_races l.outstanding l.place ≡ load_races (drop l.transfer-index l.outstanding) l.place
