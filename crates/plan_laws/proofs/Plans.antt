@@ -1,75 +1,97 @@
 -- The tests of a plan hold of the text that it ends with.
-use Rattle.std.proofs.Common.{◌≡◌, ℕ, suc, ◌≤◌, Bool, true, false, List, [], ◌∷◌, refl, ap, arith}
-use Rattle.std.specs.Prelude.{fold, nat_lt, if◌then◌else◌, Result, Ok, Err, Some}
+use Rattle.std.proofs.Common.{◌≡◌, ℕ, ◌≤◌, Bool, true, false, List, [], ◌∷◌, ◌++◌, refl, sym, ap, subst, arith}
+use Rattle.std.specs.Prelude.{fold, length, nat_lt, if◌then◌else◌, max, Option, Some, None, Result, Ok, Err}
 use Rattle.affine_ast.specs.declared.module.Arg.{Arg}
 use Rattle.affine_ast.specs.declared.name.Name.{Name}
+use Rattle.affine_ast.specs.declared.types.MemrefType.{MemrefType}
 use Rattle.affine_ast.specs.Nest.{Nest, Nothing, Loop, Branch, Does, nest}
 use Rattle.nest_domain.specs.declared.plan.Cause.TheVariants as cause
 use Rattle.nest_domain.specs.declared.plan.Options.{Options}
-use Rattle.nest_domain.specs.Boxes as domain
+use Rattle.nest_domain.specs.Boxes as region
 use Rattle.nest_domain.specs.Ways as ways
-use Rattle.nest_domain.specs.Ways.{Header, spot, under}
+use Rattle.nest_domain.specs.Ways.{spot, under}
 use Rattle.access_region.specs.Faults.{NoRegion}
-use Rattle.placement_texts.specs.Template.{Placement}
+use Rattle.placement_texts.specs.Fold.{Step, staged_all}
 use Rattle.placement_texts.specs.Spots.{Spot, Here, Behind, Inside, Other, IsLoop, stage_one}
+use Rattle.placement_regions.specs.Sites.{from_spot, way_to}
+use Rattle.box_run_laws.specs.Peaks.{plain_live}
 use Rattle.peak_laws.specs.Peak.{peak_of}
-use Rattle.plan_laws.specs.Limits.{keeps_limits}
-use Rattle.plan_laws.specs.Sites.{from_spot, way_to, position, further, loops_at, loops_round, LoopsAreNamed}
-use Rattle.plan_laws.specs.Plan.{Site, Planned, Settled, Unstaged, Placed, firsts, times, settled, with_settled, decided, over_blocks, planned, placement_at, hoisted, region_at, accesses_in}
-use Rattle.plan_laws.specs.Law.{PlansKeepWithin}
+use Rattle.plan_laws.specs.Limits.{keeps_limits, keeps_intervals}
+use Rattle.plan_laws.specs.Sites.{position, further, loops_round, LoopsAreNamed, lined}
+use Rattle.plan_laws.specs.Plan.{Asked, Planned, Settled, Unstaged, Placed, times, type_of, accesses_in, region_at, hoisted, step_at, text_with, tested, settled_from, settled, steps_with, decided, asked, planned}
+use Rattle.plan_laws.specs.Law.{PlansKeepWithin, SizeComesSecond}
+
+-- one placement more, behind the others
+pub staged_one_more : (xs : List Step) (x : Step) (n : Nest) → staged_all (xs ++ x ∷ []) n ≡ stage_one x.placement x.spot (staged_all xs n)
+staged_one_more [] x n = refl
+staged_one_more (y ∷ ys) x n = staged_one_more ys x (stage_one y.placement y.spot n)
 
 module _ (o : Options) (args : List Arg) (n : Nest) where
-  -- what a plan tests of a text
-  record Passes (text : Nest) : Type 0 where
-    capacity : peak_of text 0 ≤ o.capacity
-    limits : keeps_limits args text ≡ true
-
   -- a property of the text so far that each tested text has
-  module _ (P : Nest → Type 0) (of_tested : (text : Nest) → nat_lt o.capacity (peak_of text 0) ≡ false → keeps_limits args text ≡ true → P text) where
-    abbrev Settles : Settled → Type 0
-    Settles (Unstaged c) = Unit {0}
-    Settles (Placed x p text) = P text
+  module _ (P : Nest → Type 0) (of_tested : (text : Nest) → keeps_intervals args text ≡ true → nat_lt o.capacity (peak_of text 0) ≡ false → keeps_limits args text ≡ true → P text) where
+    abbrev Settles : List Step → Settled → Type 0
+    Settles steps y = P (text_with o args n steps) → P (text_with o args n (steps_with o args n steps y))
 
-    by_tests : (x : Site) (p : Placement) (text : Nest) (a b : Bool) → nat_lt o.capacity (peak_of text 0) ≡ a → keeps_limits args text ≡ b
-        → Settles (if a then Unstaged cause.Capacity else (if b then Placed x p text else Unstaged cause.Size))
-    by_tests x p text true b h k = tt
-    by_tests x p text false true h k = of_tested text h k
-    by_tests x p text false false h k = tt
+    by_tests : (steps : List Step) (x : Step) (ds : List region.Dimension) (text : Nest) → text_with o args n (steps ++ x ∷ []) ≡ text → (i a b : Bool) → keeps_intervals args text ≡ i → nat_lt o.capacity (peak_of text 0) ≡ a → keeps_limits args text ≡ b
+        → Settles steps (if i then (if a then Unstaged cause.Capacity else (if b then Placed x ds else Unstaged cause.Size)) else Unstaged cause.Coefficient)
+    by_tests steps x ds text is false a b j h k = λ p. p
+    by_tests steps x ds text is true true b j h k = λ p. p
+    by_tests steps x ds text is true false true j h k = λ p. subst P (sym is) (of_tested text j h k)
+    by_tests steps x ds text is true false false j h k = λ p. p
 
-    all_settle : (text : Nest) (number : ℕ) (m : Name) (s : Spot) (r : Result (List domain.Dimension) NoRegion) → Settles (settled o args n text number m s r)
-    all_settle text number m s (Err e) = tt
-    all_settle text number m s (Ok ds) =
-        let x = hoisted o args n m (times m (accesses_in o args n s)) (loops_round s n) (record { at = s; region = ds }) in
-        let p = placement_at o args n number m x in
-        by_tests x p (stage_one p x.at text) (nat_lt o.capacity (peak_of (stage_one p x.at text) 0)) (keeps_limits args (stage_one p x.at text)) refl refl
+    all_settle : (steps : List Step) (m : Name) (ty : MemrefType) (s : Spot) (r : Result (List region.Dimension) NoRegion) → Settles steps (settled_from o args n steps m ty s r)
+    all_settle steps m ty s (Err e) = λ p. p
+    all_settle steps m ty s (Ok ds) =
+        let x = hoisted o args n m ty (times m (accesses_in o args n s)) (loops_round s n) (record { at = s; region = ds }) in
+        let y = step_at o args n (length steps) m ty x in
+        let text = stage_one y.placement y.spot (text_with o args n steps) in
+        by_tests steps y x.region text (staged_one_more steps y (lined n)) (keeps_intervals args text) (nat_lt o.capacity (peak_of text 0)) (keeps_limits args text) refl refl refl
 
-    kept_settled : (block : ℕ) (s : Spot) (m : Name) (so : Planned) (x : Settled) → P so.text → Settles x → P (with_settled o args n block s m so x).text
-    kept_settled block s m so (Unstaged c) h k = h
-    kept_settled block s m so (Placed x p text) h k = k
+    any_settle : (steps : List Step) (m : Name) (s : Spot) (ty : Option MemrefType) → Settles steps (settled o args n steps m s ty)
+    any_settle steps m s None = λ p. p
+    any_settle steps m s (Some ty) = all_settle steps m ty s (region_at o args n m ty s)
 
-    kept_fold : (block : ℕ) (s : Spot) (ms : List Name) (so : Planned) → P so.text → P (fold (decided o args n block s) so ms).text
-    kept_fold block s [] so h = h
-    kept_fold block s (m ∷ ms) so h = kept_fold block s ms (decided o args n block s so m) (kept_settled block s m so _ h (all_settle so.text _ m s (region_at o args n m s)))
+    kept_fold : (as_ : List Asked) (so : Planned) → P (text_with o args n so.steps) → P (text_with o args n (fold (decided o args n) so as_).steps)
+    kept_fold [] so h = h
+    kept_fold (a ∷ as_) so h = kept_fold as_ (decided o args n so a) (any_settle so.steps a.memref a.at (type_of args a.memref) h)
 
-    kept_blocks : (block : ℕ) (ss : List Spot) (so : Planned) → P so.text → P (over_blocks o args n block ss so).text
-    kept_blocks block [] so h = h
-    kept_blocks block (s ∷ ss) so h = kept_blocks (suc block) ss (fold (decided o args n block s) so (firsts [] (accesses_in o args n s))) (kept_fold block s (firsts [] (accesses_in o args n s)) so h)
-
-    kept_planned : P n → P (planned o args n).text
+    kept_planned : P (lined n) → P (text_with o args n (planned o args n).steps)
     unfolding planned
-    kept_planned h = kept_blocks 0 (loops_at o.depth n) (record { text = n; decisions = [] }) h
+    kept_planned h = kept_fold (asked o args n) (record { steps = []; decisions = [] }) h
 
   not_above : (a b : ℕ) → nat_lt a b ≡ false → b ≤ a
   not_above a b h = grind (arith, h)
 
-  capacity_kept : peak_of n 0 ≤ o.capacity → peak_of (planned o args n).text 0 ≤ o.capacity
-  capacity_kept h = kept_planned (λ text. peak_of text 0 ≤ o.capacity) (λ text h k. not_above o.capacity (peak_of text 0) h) h
+  peak_lined : (t : Nest) (l : ℕ) → peak_of (lined t) l ≡ peak_of t l
+  peak_lined Nothing l = refl
+  peak_lined (Loop line v low high s body rest) l = (λ i. max (peak_lined body l i) (peak_lined rest l i))
+  peak_lined (Branch line set names first has other rest) l = (λ i. max (peak_lined first l i) (max (peak_lined other l i) (peak_lined rest l i)))
+  peak_lined (Does line p rest) l = ap (max l) (peak_lined rest (plain_live p l))
 
-  limits_kept : keeps_limits args n ≡ true → keeps_limits args (planned o args n).text ≡ true
-  limits_kept h = kept_planned (λ text. keeps_limits args text ≡ true) (λ text h k. k) h
+  capacity_kept : peak_of n 0 ≤ o.capacity → peak_of (text_with o args n (planned o args n).steps) 0 ≤ o.capacity
+  capacity_kept h = kept_planned (λ text. peak_of text 0 ≤ o.capacity) (λ text j h k. not_above o.capacity (peak_of text 0) h) (subst (λ p. p ≤ o.capacity) (sym (peak_lined n 0)) h)
+
+  limits_kept : keeps_limits args (lined n) ≡ true → keeps_limits args (text_with o args n (planned o args n).steps) ≡ true
+  limits_kept h = kept_planned (λ text. keeps_limits args text ≡ true) (λ text j h k. k) h
+
+  intervals_kept : keeps_intervals args (lined n) ≡ true → keeps_intervals args (text_with o args n (planned o args n).steps) ≡ true
+  intervals_kept h = kept_planned (λ text. keeps_intervals args text ≡ true) (λ text j h k. j) h
+
+  size_second : (x : Step) (ds : List region.Dimension) (text : Nest) → tested o args n x ds text ≡ Unstaged cause.Size → (peak_of text 0 ≤ o.capacity) × (keeps_limits args text ≡ false)
+  size_second x ds text h = by (keeps_intervals args text) (nat_lt o.capacity (peak_of text 0)) (keeps_limits args text) refl refl h
+    where
+      by : (i a b : Bool) → nat_lt o.capacity (peak_of text 0) ≡ a → keeps_limits args text ≡ b
+          → (if i then (if a then Unstaged cause.Capacity else (if b then Placed x ds else Unstaged cause.Size)) else Unstaged cause.Coefficient) ≡ Unstaged cause.Size → (peak_of text 0 ≤ o.capacity) × (keeps_limits args text ≡ false)
+      by false a b h k is = absurd (let z : ⊥ = cc in z)
+      by true true b h k is = absurd (let z : ⊥ = cc in z)
+      by true false true h k is = absurd (let z : ⊥ = cc in z)
+      by true false false h k is = (not_above o.capacity (peak_of text 0) h, k)
 
 pub keep_within : PlansKeepWithin
-keep_within o m = record { capacity = capacity_kept o m.args (nest m.body); limits = limits_kept o m.args (nest m.body) }
+keep_within o m = record { intervals = intervals_kept o m.args (nest m.body); capacity = capacity_kept o m.args (nest m.body); limits = limits_kept o m.args (nest m.body) }
+
+pub size_comes_second : SizeComesSecond
+size_comes_second o args n x ds text h = size_second o args n x ds (stage_one x.placement x.spot text) h
 
 -- ---- paths
 

@@ -1,31 +1,9 @@
--- Loops of a text by where they stand: those at a depth, those round one, the path of one, and what stands there.
+-- Loops of a text by where they stand: those at a depth, those round one, and the path of one.
 use Rattle.std.specs.Prelude.{◌≡◌, ℕ, zero, suc, Bool, true, false, List, [], ◌∷◌, ◌++◌, map, Some}
 use Rattle.affine_ast.specs.Nest.{Nest, Nothing, Loop, Branch, Does}
-use Rattle.nest_domain.specs.Ways as ways
-use Rattle.nest_domain.specs.Ways.{Header, at_path}
+use Rattle.nest_domain.specs.Ways.{at_path}
 use Rattle.placement_texts.specs.Spots.{Spot, Here, Behind, Inside, Other, IsLoop}
-
--- the statements from a place on, to the end of their region
-abbrev pub from_spot : Spot → Nest → Nest
-from_spot Here n = n
-from_spot (Behind s) (Loop line v l u step body rest) = from_spot s rest
-from_spot (Behind s) (Branch line set names first has other rest) = from_spot s rest
-from_spot (Behind s) (Does line q rest) = from_spot s rest
-from_spot (Inside s) (Loop line v l u step body rest) = from_spot s body
-from_spot (Inside s) (Branch line set names first has other rest) = from_spot s first
-from_spot (Other s) (Branch line set names first has other rest) = from_spot s other
-from_spot s n = Nothing
-
--- the way to a place
-abbrev pub way_to : Spot → Nest → List Header
-way_to Here n = []
-way_to (Behind s) (Loop line v l u step body rest) = ways.Past body ∷ way_to s rest
-way_to (Behind s) (Branch line set names first has other rest) = ways.Past first ∷ (ways.Past other ∷ way_to s rest)
-way_to (Behind s) (Does line q rest) = ways.Behind q ∷ way_to s rest
-way_to (Inside s) (Loop line v l u step body rest) = ways.Round v l u step ∷ way_to s body
-way_to (Inside s) (Branch line set names first has other rest) = ways.Given set names ∷ way_to s first
-way_to (Other s) (Branch line set names first has other rest) = ways.Except set names first ∷ way_to s other
-way_to s n = []
+use Rattle.placement_regions.specs.Sites.{from_spot, way_to}
 
 -- the position in its list of the statement of that list in which a place lies, and the positions from there inward. A position of an
 -- `else` region has the mark `true`
@@ -70,13 +48,30 @@ loops_round (Inside s) (Branch line set names first has other rest) = map Inside
 loops_round (Other s) (Branch line set names first has other rest) = map Other (loops_round s other)
 loops_round s n = []
 
--- a loop with nothing behind it, and its line
-abbrev pub alone : Nest → Nest
-alone (Loop line v l u s body rest) = Loop line v l u s body Nothing
-alone n = n
+-- the second place is the first one, or lies in its loop
+abbrev pub Holds : Spot → Spot → Type 0
+Holds Here Here = Unit {0}
+Holds Here (Inside s) = Unit {0}
+Holds (Behind t) (Behind s) = Holds t s
+Holds (Inside t) (Inside s) = Holds t s
+Holds (Other t) (Other s) = Holds t s
+Holds t s = ⊥
 
+-- the line of the first statement
 abbrev pub line_of : Nest → ℕ
 line_of Nothing = 0
 line_of (Loop line v l u s body rest) = line
 line_of (Branch line set names first has other rest) = line
 line_of (Does line p rest) = line
+
+-- the text with a line for each statement, as each text of a module has: by their lines templates tell the module's own statements from
+-- those that other templates made
+abbrev pub line_or_one : ℕ → ℕ
+line_or_one zero = 1
+line_or_one (suc line) = suc line
+
+abbrev pub lined : Nest → Nest
+lined Nothing = Nothing
+lined (Loop line v l u s body rest) = Loop (line_or_one line) v l u s (lined body) (lined rest)
+lined (Branch line set names first has other rest) = Branch (line_or_one line) set names (lined first) has (lined other) (lined rest)
+lined (Does line p rest) = Does (line_or_one line) p (lined rest)

@@ -1,0 +1,5 @@
+pub mod Texts
+mod Trees
+mod Ways
+mod Plans
+pub mod Law
