@@ -1,0 +1,2 @@
+mod Folds
+pub mod Plans

@@ -1,0 +1,5 @@
+use Rattle.plan_numbers.proofs.Plans.{plans}
+use Rattle.plan_numbers.proofs.plans_are.Goals as goal
+
+pub returns : goal.returns
+returns c = plans
