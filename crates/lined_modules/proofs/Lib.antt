@@ -1,5 +1,5 @@
 pub mod Texts
-mod Trees
+pub mod Trees
 mod Ways
 mod Plans
 pub mod Law

@@ -11,7 +11,7 @@ use Rattle.printed_texts.proofs.Unnested.{what_of, stmt_of, stmts_of, put_plain,
 use Rattle.plan_laws.specs.Sites.{lined}
 
 -- a condition without an else region has nothing there
-abbrev Closed : Nest → Type 0
+abbrev pub Closed : Nest → Type 0
 Closed Nothing = Unit {0}
 Closed (Loop line v l u s body rest) = Closed body × Closed rest
 Closed (Branch line set names first true other rest) = Closed first × Closed other × Closed rest
@@ -54,7 +54,7 @@ closed_lined (Branch line set names first true other rest) h = (closed_lined fir
 closed_lined (Branch line set names first false other rest) h = (ap lined h.0, closed_lined first h.1, closed_lined rest h.2)
 closed_lined (Does line p rest) h = closed_lined rest h
 
-made : (n : Nest) → Closed n → nest (stmts_of n) ≡ n
+pub made : (n : Nest) → Closed n → nest (stmts_of n) ≡ n
 made Nothing h = nest-nil
 made (Loop line v l u s body rest) h = of_loop line v l u s body rest ∙ (λ i. Loop line v l u s (made body h.0 i) (made rest h.1 i))
 made (Branch line set names first true other rest) h = of_choice line set names first other rest ∙ (λ i. Branch line set names (made first h.0 i) true (made other h.1 i) (made rest h.2 i))

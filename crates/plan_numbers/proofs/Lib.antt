@@ -1,2 +1,3 @@
 mod Folds
 pub mod Plans
+pub mod Valid

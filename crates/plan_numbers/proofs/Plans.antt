@@ -37,7 +37,7 @@ use Rattle.placement_texts.specs.Template.{Placement, Transfers}
 use Rattle.placement_texts.specs.Spots.{Here, Inside, stage_one}
 use Rattle.plan_laws.specs.Limits.{keeps_limits, keeps_intervals}
 use Rattle.nest_domain.specs.declared.plan.Cause.TheVariants as cause
-use Rattle.plan_laws.specs.Plan.{Site, Asked, Unstaged, Placed, region_at, hoisted_by, hoisted, step_at, tested_in, settled_at, settled_from, decision, planned}
+use Rattle.plan_laws.specs.Plan.{Site, Asked, Unstaged, Placed, region_at, hoisted_by, hoisted, step_at, tested_in, settled_at, settled_from, steps_with, decision, planned}
 use Rattle.plan_numbers.specs.Modules.{A, it, i, loaded, raised, c, at, slow, no_turn, tiles}
 use Rattle.plan_numbers.specs.Law.{with_loops, with_transfers, left, tile, staged_tile, PlansAre}
 use Rattle.plan_numbers.proofs.Folds.{numbers_of, bounds, spread_parts}
@@ -62,7 +62,7 @@ unfolding planned same_name
 unstaged = simp no_region_there refl
 
 -- ---- tiles
-abbrev round : Nest
+abbrev pub round : Nest
 round =
     Loop 2 it (bound.Int (pos 0)) (bound.Int (pos 64)) (pos 16)
     (Loop 3 i (bound.Map (at (Dim 0) it)) (bound.Map (at (Add (Dim 0) (Const (pos 16))) it)) (pos 1)
@@ -72,7 +72,7 @@ round =
     (Does 7 (Store raised A (at (Dim 0) i) (slow 64)) Nothing)))) Nothing)
     (Does 10 Return Nothing)
 
-round_is : nest tiles.body ≡ round
+pub round_is : nest tiles.body ≡ round
 round_is = simp nests refl
 
 abbrev whole : List Dimension
@@ -86,7 +86,7 @@ whole_there : (capacity : ℕ) → region_at (with_transfers capacity) tiles.arg
 unfolding region_of widened shape limited uses used padded minus along place system_of row_at access reach_of emptiness valued greatest_lower least_upper tidied pair_of step steps eliminated same_name put join_forms scale_form number_form variable_form floored_form rest_form raised_form floor_div narrowed combined gcd_of first_turn last_end
 whole_there capacity = simp (overs, bounds, spread_parts) refl
 
-abbrev placement : Placement
+abbrev pub placement : Placement
 placement = record {
   memref = A;
   element = I32;
@@ -97,14 +97,14 @@ placement = record {
   name = made_name 0;
 }
 
-abbrev placed : Step
+abbrev pub placed : Step
 placed = record { placement = placement; spot = Inside Here; order = 0; first = 0 }
 
 step_is : (capacity : ℕ) → step_at (with_transfers capacity) tiles.args round 0 A (slow 64) (record { at = Inside Here; region = tile }) ≡ placed
 unfolding covers uses same_name
 step_is capacity = refl
 
-abbrev text : Nest
+abbrev pub text : Nest
 text = stage_one placement (Inside Here) round
 
 intervals : keeps_intervals tiles.args text ≡ true
@@ -150,6 +150,10 @@ asked_one = record { block = 0; at = Inside Here; memref = A }
 staged : (planned (with_transfers 64) tiles.args round).decisions ≡ staged_tile
 unfolding planned same_name
 staged = ap (λ y. decision (with_transfers 64) tiles.args round asked_one y ∷ []) (settles 64 ∙ fits)
+
+pub steps_are : (planned (with_transfers 64) tiles.args round).steps ≡ placed ∷ []
+unfolding planned same_name
+steps_are = ap (steps_with (with_transfers 64) tiles.args round []) (settles 64 ∙ fits)
 
 refused : (planned (with_transfers 63) tiles.args round).decisions ≡ left 0 3 cause.Capacity
 unfolding planned same_name

@@ -1,5 +1,8 @@
 -- The plans of the two modules, by computing.
-use Rattle.std.specs.Prelude.{◌≡◌, ℕ, pos, true, false, List, [], ◌∷◌}
+use Rattle.std.specs.Prelude.{◌≡◌, ℕ, pos, true, false, List, [], ◌∷◌, None}
+use Rattle.affine_ast.specs.declared.module.Module.{Module}
+use Rattle.affine_ast.specs.PlainLimits.{plain_fault}
+use Rattle.affine_ast.specs.Validity.{IsValid}
 use Rattle.nest_domain.specs.declared.plan.Cause.{Cause}
 use Rattle.nest_domain.specs.declared.plan.Cause.TheVariants as cause
 use Rattle.nest_domain.specs.declared.plan.Decision.{Decision}
@@ -8,6 +11,7 @@ use Rattle.nest_domain.specs.declared.plan.Options.{Options}
 use Rattle.nest_domain.specs.declared.plan.Outcome.TheVariants as outcome
 use Rattle.nest_domain.specs.Boxes.{Dimension}
 use Rattle.plan_laws.specs.Plan.{plan}
+use Rattle.plan_theorem.specs.Law.{IsWritten, IsStagedModule, RunsAsPlanned}
 use Rattle.plan_numbers.specs.Modules.{no_turn, tiles}
 
 abbrev pub with_loops : Options
@@ -38,3 +42,13 @@ pub record PlansAre : Type 0 where
   -- isn't hoisted
   pub staged : plan (with_transfers 64) tiles ≡ staged_tile
   pub capacity : plan (with_transfers 63) tiles ≡ left 0 3 cause.Capacity
+
+-- so the law of the plan speaks of something: the tiles meet what it asks, there is a module with their plan's placement, and it runs
+-- as they do
+pub record TilesAreStaged : Type 0 where
+  pub valid : IsValid tiles
+  pub may_be_staged : plain_fault tiles ≡ None
+  pub written : IsWritten tiles
+  pub staged : Module
+  pub is : IsStagedModule (with_transfers 64) tiles staged
+  pub runs : RunsAsPlanned (with_transfers 64) tiles staged
