@@ -9,10 +9,17 @@ mod run;
 use case::next_case;
 use run::{Totals, run_case};
 use std::process::ExitCode;
+use std::rt::Files;
+use std::sync::Wait;
+use std::thread::Threads;
 use std::{env, fs, io};
 
 /// Runs all cases of one file.
-fn run_file(rt: &HostRuntime, name: &str, totals: &mut Totals) -> io::Result<()> {
+fn run_file<R: Files + Print + AllocGlobal + Threads + Wait + Sync>(
+    rt: &R,
+    name: &str,
+    totals: &mut Totals,
+) -> io::Result<()> {
     let bytes = fs::read(rt, name)?;
     let mut rest = bytes.as_slice();
     let count = rest.len();

@@ -1,8 +1,12 @@
 // One run of the top call.
 use crate::case::{Case, Given};
-use affine_driver::{Ending, stage_main};
+use affine_driver::{Ending, affine_main};
 use affine_io::{MemSink, MemSource};
+use dma_engine::OpenGate;
 use std::alloc::{AllocError, Global};
+use std::rt::Files;
+use std::sync::Wait;
+use std::thread::Threads;
 use std::{fs, io};
 
 /// How many cases ran, and how many differ from what they must come to.
@@ -16,8 +20,8 @@ pub struct Totals {
 const ROOM: usize = 16_777_216;
 
 /// Whether an ending and what went out are those of the case; where not, a line says which differs.
-fn is_expected(
-    rt: &HostRuntime,
+fn is_expected<R: Print + AllocGlobal>(
+    rt: &R,
     name: &str,
     number: u64,
     case: &Case<'_>,
@@ -48,7 +52,7 @@ fn repeated(alloc: Global, text: &[u8], count: u64) -> Result<Vec<u8>, AllocErro
 }
 
 /// The bytes of the source.
-fn source_of(rt: &HostRuntime, case: &Case<'_>) -> io::Result<Vec<u8>> {
+fn source_of<R: Files + AllocGlobal>(rt: &R, case: &Case<'_>) -> io::Result<Vec<u8>> {
     let bytes = match case.source {
         Given::Here(text) => repeated(rt.alloc(), text, case.repeat)?,
         Given::File(name) => fs::read(rt, name)?,
@@ -57,8 +61,8 @@ fn source_of(rt: &HostRuntime, case: &Case<'_>) -> io::Result<Vec<u8>> {
 }
 
 /// Runs one case and counts it.
-pub fn run_case(
-    rt: &HostRuntime,
+pub fn run_case<R: Files + Print + AllocGlobal + Threads + Wait + Sync>(
+    rt: &R,
     name: &str,
     number: u64,
     case: &Case<'_>,
@@ -70,7 +74,14 @@ pub fn run_case(
     let fails_write = case.fails_write.as_slice().to_vec(alloc)?;
     let mut source = MemSource::new(bytes, fails_read, case.most_read.max(1));
     let mut sink = MemSink::new(alloc, ROOM, fails_write, case.most_write.max(1))?;
-    let ending = stage_main(alloc, case.words.as_slice(), &mut source, &mut sink);
+    let ending = affine_main(
+        alloc,
+        rt,
+        case.words.as_slice(),
+        &mut source,
+        &mut sink,
+        &OpenGate,
+    );
     totals.runs = totals.runs.saturating_add(1);
     if !is_expected(rt, name, number, case, ending, &sink)? {
         totals.differ = totals.differ.saturating_add(1);

@@ -2,15 +2,21 @@
 //! ending becomes the exit status.
 #![tactic(auto)]
 
-use affine_driver::{Ending, stage_main};
+use affine_driver::{Ending, affine_main};
 use affine_io::{StdSink, StdSource};
+use dma_engine::OpenGate;
 use std::alloc::AllocError;
 use std::process::ExitCode;
+use std::rt::Env;
+use std::sync::Wait;
+use std::thread::Threads;
 use std::{env, io};
 
 /// The ending of a call with the words behind the program's name. Words that are no text ask for no command; memory that is wanting
 /// while they are read is told apart from them.
-fn answer(rt: &HostRuntime) -> Result<Ending, AllocError> {
+fn answer<R: Env + AllocGlobal + Input + Print + Threads + Wait + Sync>(
+    rt: &R,
+) -> Result<Ending, AllocError> {
     let args = match env::args(rt) {
         Ok(args) => args,
         Err(fault) => {
@@ -27,7 +33,14 @@ fn answer(rt: &HostRuntime) -> Result<Ending, AllocError> {
     }
     let mut source = StdSource::new(rt.reader());
     let mut sink = StdSink::new(io::writer(rt));
-    Ok(stage_main(rt.alloc(), words.as_slice(), &mut source, &mut sink))
+    Ok(affine_main(
+        rt.alloc(),
+        rt,
+        words.as_slice(),
+        &mut source,
+        &mut sink,
+        &OpenGate,
+    ))
 }
 
 fn main(rt: HostRuntime) -> ExitCode {

@@ -1,4 +1,5 @@
 -- Words ask for one command, by its first word and the values of its options.
+use mathlib.Core.Bool.{beq}
 use Rattle.std.proofs.Common.{◌≡◌, ℕ, ◌<◌, ◌≤◌, Bool, true, false, List, [], ◌∷◌, Option, Some, None, ℤ, pos, negsuc, refl, sym, ap, ◌∙◌, subst, arith, lit<, length, map, take, drop, get_or, ◌-◌, Result}
 use Rattle.std.specs.Prelude.{◌↔◌, int_le, nat_lt, if◌then◌else◌, codes}
 use Rattle.std.specs.Prelude.{IfOk}
@@ -24,7 +25,7 @@ use Rattle.affine_driver.specs.declared.command.FirstWord.TheVariants as first
 use Rattle.affine_driver.specs.declared.table.TheConstants.{REGIONS_DEPTH, STAGE_DEPTH, STAGE_DMA, STAGE_DOUBLE, STAGE_BUFFERS, STAGE_CAPACITY, RUN_CAPACITY, RUN_FILLER, RUN_ENGINES, ORDER_CAPACITY, ORDER_FILLER, ORDER_ENGINES, ORDER_PICK, BOTH_DEPTH, BOTH_DMA, BOTH_DOUBLE, BOTH_BUFFERS, BOTH_CAPACITY, BOTH_FILLER, BOTH_ENGINES, SAMPLE_NUMBER}
 use Rattle.affine_driver.specs.declared.table.TheConstants.{DEPTH, BUFFERS, CAPACITY, FILLER, ENGINES, PICK, NUMBER}
 use Rattle.affine_driver.specs.Table.{alone, behind, word_of, name_of, standing_of, options_of}
-use Rattle.affine_driver.specs.Command.{stage_values, run_values, values_of, stage_options, run_options, AsksFor, IsAllowed, AsksBehind, first_word, command_by}
+use Rattle.affine_driver.specs.Command.{stage_values, run_values, values_of, stage_options, run_options, AsksFor, IsAllowed, AsksBehind, first_word, command_by, runs_threads}
 
 some_is : {X : Type 0} (x y : X) → Some x ≡ Some y → x ≡ y
 some_is x y h = cc
@@ -370,3 +371,39 @@ one_command found a b h k = some_is a b (sym h ∙ k)
 
 pub no_command : (found : Option Command) (a : Command) → found ≡ None → found ≡ Some a → ⊥
 no_command found a h k = no_some a (sym h ∙ k)
+
+-- ---- Commands that run threads
+
+same_bool : (a b : Bool) → beq a b ≡ true → a ≡ b
+same_bool true true h = refl
+same_bool false false h = refl
+same_bool true false h = absurd (grind arith)
+same_bool false true h = absurd (grind arith)
+
+other_bool : (a b : Bool) → beq a b ≡ false → a ≡ b → ⊥
+other_bool true true h = λ e. grind arith
+other_bool false false h = λ e. grind arith
+other_bool true false h = λ e. grind arith
+other_bool false true h = λ e. grind arith
+
+-- a command that is found among all is found among those that run threads, or among the others
+pub among_some : (words : List (List ℕ)) (found : Option Command) (c : Command) (runs threads : Bool) → found ≡ Some c → runs ≡ runs_threads c → beq runs threads ≡ true
+    → ((command : Command) → (found ≡ Some command) ↔ AsksFor words command) → (command : Command) → (Some c ≡ Some command) ↔ (AsksFor words command × (runs_threads command ≡ threads))
+among_some words found c runs threads is own same tell command = (
+  λ h. ((tell command).0 (is ∙ h), subst (λ x. runs_threads x ≡ threads) (some_is c command h) (sym own ∙ same_bool runs threads same)),
+  λ a. sym is ∙ (tell command).1 a.0,
+)
+
+pub among_others : (words : List (List ℕ)) (found : Option Command) (c : Command) (runs threads : Bool) → found ≡ Some c → runs ≡ runs_threads c → beq runs threads ≡ false
+    → ((command : Command) → (found ≡ Some command) ↔ AsksFor words command) → (command : Command) → (None ≡ Some command) ↔ (AsksFor words command × (runs_threads command ≡ threads))
+among_others words found c runs threads is own other tell command = (
+  λ h. absurd (no_some command h),
+  λ a. absurd (other_bool runs threads other (own ∙ subst (λ x. runs_threads x ≡ threads) (some_is command c (sym ((tell command).1 a.0) ∙ is)) a.1)),
+)
+
+pub among_none : (words : List (List ℕ)) (found : Option Command) (threads : Bool) → found ≡ None
+    → ((command : Command) → (found ≡ Some command) ↔ AsksFor words command) → (command : Command) → (None ≡ Some command) ↔ (AsksFor words command × (runs_threads command ≡ threads))
+among_none words found threads is tell command = (
+  λ h. absurd (no_some command h),
+  λ a. absurd (no_some command (sym is ∙ (tell command).1 a.0)),
+)

@@ -12,6 +12,7 @@ use Rattle.bus_model.specs.declared.step.Verdict.{Verdict}
 use Rattle.bus_model.specs.declared.step.Verdict.TheVariants as verdict
 use Rattle.direct_meaning.specs.Direct.{plain, verdict_of}
 use Rattle.direct_meaning.specs.Work.{work}
+use Rattle.prompt_meaning.specs.Prompt.{prompt_verdict}
 use Rattle.copy_emit.specs.FirstPlan.{Planned, first_plan, first_staged}
 use Rattle.copy_emit.specs.Law.{staged}
 use Rattle.first_path.specs.declared.place.Placement.{Placement}
@@ -22,7 +23,7 @@ use Rattle.mem_image.specs.Images as image
 use Rattle.mem_image.specs.Laws.{SpellsOne, BreaksOne, NotBoth}
 use Rattle.source_parts.specs.Parts.{text_part, image_part}
 use Rattle.affine_driver.specs.declared.command.Command.{Command}
-use Rattle.affine_driver.specs.declared.command.Command.TheVariants.{Check, Stage, Plain}
+use Rattle.affine_driver.specs.declared.command.Command.TheVariants.{Check, Stage, Plain, Run}
 use Rattle.affine_driver.specs.declared.ending.Ending.{Ending}
 use Rattle.affine_driver.specs.declared.ending.Ending.TheVariants as end
 use Rattle.affine_driver.specs.declared.refusal.Refusal.{Refusal}
@@ -30,7 +31,7 @@ use Rattle.affine_driver.specs.declared.refusal.Refusal.TheVariants.{Text, Inval
 use Rattle.affine_driver.specs.Behaviour.{Limited, OfFirstForm, RunsToEnd, Makes, ComesTo, Refuses, Completes}
 use Rattle.affine_driver.specs.Laws.{IsOpen, IsBuilt, EndingsAreExact, HasOneOutput}
 use Rattle.affine_driver.specs.Outcome.{Outcome, Refused, Complete, Writes, Demands, Gives}
-use Rattle.affine_driver.specs.Output.{report, IsStageOutput, IsPlainOutput}
+use Rattle.affine_driver.specs.Output.{report, prompted, IsStageOutput, IsPlainOutput, IsRunOutput}
 use Rattle.affine_driver.specs.Reading.{Because}
 use Rattle.affine_driver.specs.Refusals.{ending_of, SpellsNone, BreaksRule, BreaksLimits, IsOtherForm, SpellsNoImage, work_limit, IsTooMuch, StopsAt, OrMemory}
 
@@ -218,6 +219,7 @@ makes_once : Known → (command : Command) (text : List ℕ) (input : Module) �
 makes_once known Check text input = given (λ output. output ≡ spelling input) (same_output (spelling input))
 makes_once known (Stage options) text input = limited input _ (of_form input _ (given _ (λ output other h k. one_staged input output other h.0 k.0)))
 makes_once known Plain text input = limited input _ (runs_to_end known.images input text (λ memory. verdict_of (plain input memory)) _ (λ memory. given (IsPlainOutput input memory) (same_output _)))
+makes_once known (Run options) text input = runs_to_end known.images input text (λ memory. prompt_verdict (prompted options input memory)) _ (λ memory. given (IsRunOutput input options memory) (same_output _))
 makes_once known unbuilt text input = λ a b h k. absurd h
 
 comes_once : Known → (command : Command) (source : List ℕ) → Once (ComesTo command source)

@@ -10,15 +10,16 @@ use Rattle.bus_model.specs.declared.step.Verdict.{Verdict}
 use Rattle.bus_model.specs.declared.step.Verdict.TheVariants as verdict
 use Rattle.direct_meaning.specs.Direct.{plain, verdict_of}
 use Rattle.direct_meaning.specs.Work.{work}
+use Rattle.prompt_meaning.specs.Prompt.{prompt_verdict}
 use Rattle.first_path.specs.Form.{IsOfFirstForm}
 use Rattle.mem_image.specs.Images as image
 use Rattle.source_parts.specs.Parts.{text_part, image_part}
 use Rattle.staged_texts.specs.Laws.{SpellsStaged}
 use Rattle.affine_driver.specs.declared.command.Command.{Command}
-use Rattle.affine_driver.specs.declared.command.Command.TheVariants.{Check, Stage, Plain}
+use Rattle.affine_driver.specs.declared.command.Command.TheVariants.{Check, Stage, Plain, Run}
 use Rattle.affine_driver.specs.declared.refusal.Refusal.{Refusal}
 use Rattle.affine_driver.specs.Outcome.{Outcome, Refused, Complete, Writes, Demands, Gives}
-use Rattle.affine_driver.specs.Output.{IsStageOutput, IsPlainOutput}
+use Rattle.affine_driver.specs.Output.{IsStageOutput, IsPlainOutput, IsRunOutput, prompted}
 use Rattle.affine_driver.specs.Refusals.{SpellsNone, BreaksRule, BreaksLimits, IsOtherForm, SpellsNoImage, work_limit, IsTooMuch, StopsAt}
 
 -- ---- Demands
@@ -35,23 +36,28 @@ Limited input Behind = Demands (BreaksLimits input) (λ (holds : Unit {0}). plai
 abbrev pub OfFirstForm : Module → (Outcome → Type 0) → Outcome → Type 0
 OfFirstForm input Behind = Demands (IsOtherForm input) (IsOfFirstForm input) (λ looped. Behind)
 
+-- the module's work is within the limit, and a run of this verdict comes to its end
+abbrev pub EndsWithin : Module → Verdict → (Outcome → Type 0) → Outcome → Type 0
+EndsWithin input run Behind =
+    Demands (IsTooMuch input) (λ (holds : Unit {0}). work input ≤ work_limit) (λ within.
+    Demands (StopsAt run) (λ (holds : Unit {0}). run ≡ verdict.End) (λ ends. Behind))
+
 -- a run that ends: the text spells an image, whose memory fits the module, the module's work is within the limit, and the run from this
 -- memory, of which the verdict is given, comes to its end
 abbrev pub RunsToEnd : Module → List ℕ → (Image → Verdict) → (Image → Outcome → Type 0) → Outcome → Type 0
-RunsToEnd input text run Behind =
-    Demands (SpellsNoImage text input) (image.Spells text input) (λ memory.
-    Demands (IsTooMuch input) (λ (holds : Unit {0}). work input ≤ work_limit) (λ within.
-    Demands (StopsAt (run memory)) (λ (holds : Unit {0}). run memory ≡ verdict.End) (λ ends. Behind memory)))
+RunsToEnd input text run Behind = Demands (SpellsNoImage text input) (image.Spells text input) (λ memory. EndsWithin input (run memory) (Behind memory))
 
 -- ---- Commands
 
 -- What a command makes of a valid module and the text of an image, one line a command: what it demands beyond the rules V1 to V12, in the
 -- order in which it is asked for, and what it writes. `check` writes the module's printed spelling, `stage` its output, which spells a
--- valid module that runs as the module does, `plain` the printed image of the memory that the direct meaning leaves.
+-- valid module that runs as the module does, `plain` the printed image of the memory that the direct meaning leaves, `run` that of the
+-- memory that the prompt meaning leaves.
 abbrev pub Makes : Command → Module → List ℕ → Outcome → Type 0
 Makes Check input text outcome = Gives (λ output. output ≡ spelling input) outcome
 Makes (Stage options) input text outcome = Limited input (OfFirstForm input (Gives (λ output. IsStageOutput input output × SpellsStaged input output))) outcome
 Makes Plain input text outcome = Limited input (RunsToEnd input text (λ memory. verdict_of (plain input memory)) (λ memory. Gives (IsPlainOutput input memory))) outcome
+Makes (Run options) input text outcome = RunsToEnd input text (λ memory. prompt_verdict (prompted options input memory)) (λ memory. Gives (IsRunOutput input options memory)) outcome
 Makes unbuilt input text outcome = ⊥
 
 -- what a source comes to under a command: its text spells a valid module, of which, with its image, the command makes this

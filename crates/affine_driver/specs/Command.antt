@@ -1,5 +1,5 @@
 -- Which command the words ask for.
-use Rattle.std.specs.Prelude.{◌≡◌, ℕ, if◌then◌else◌, true, List, [], ◌∷◌, Option, Some, None, pos, codes}
+use Rattle.std.specs.Prelude.{◌≡◌, ℕ, if◌then◌else◌, Bool, true, false, List, [], ◌∷◌, Option, Some, None, pos, codes}
 use Rattle.std.specs.Str.{bytes_eq}
 use Rattle.command_words.specs.declared.options.Value.{Value}
 use Rattle.command_words.specs.declared.options.Value.TheVariants.{Flag, Number}
@@ -36,6 +36,16 @@ pub record AsksFor (words : List (List ℕ)) (command : Command) : Type 0 where
   pub behind : List (List ℕ)
   pub begins : words ≡ name_of (word_of command) ∷ behind
   pub given : Gives (options_of (word_of command)) behind (values_of command)
+
+-- whether the command with this name is one that runs a module by threads
+abbrev pub takes_threads : FirstWord → Bool
+takes_threads first.Run = true
+takes_threads first.Both = true
+takes_threads other = false
+
+-- whether the command runs a module by threads
+abbrev pub runs_threads : Command → Bool
+runs_threads command = takes_threads (word_of command)
 
 -- the program has this command, and its options lie in their ranges
 pub record IsAllowed (command : Command) : Type 0 where

@@ -6,10 +6,10 @@
 -- decide: no other refusal has its reason, and where the source has what the command asks for, the output was built (`IsExact`).
 -- What each command demands and writes is one table (`Behaviour`): the output of `stage` is the text of a valid module that runs as
 -- the source's module does, and that of `plain` is the memory which its direct meaning leaves.
-use Rattle.std.specs.Prelude.{ℕ, List, Option}
+use Rattle.std.specs.Prelude.{◌≡◌, ℕ, Bool, List, Option}
 use Rattle.affine_driver.specs.declared.command.Command.{Command}
 use Rattle.affine_driver.specs.declared.ending.Ending.{Ending}
-use Rattle.affine_driver.specs.Command.{AsksFor}
+use Rattle.affine_driver.specs.Command.{AsksFor, runs_threads}
 use Rattle.affine_driver.specs.Laws.{IsExact}
 use Rattle.affine_driver.specs.Reading.{Answers}
 
@@ -21,3 +21,7 @@ pub record Decides (limit : ℕ) (command : Command) (ending : Ending) (given le
 -- the words ask for no command
 abbrev pub AskForNothing : List (List ℕ) → Type 0
 AskForNothing words = (command : Command) → AsksFor words command → ⊥
+
+-- the words ask for no command that runs threads, or for none that doesn't
+abbrev pub AskForNone : Bool → List (List ℕ) → Type 0
+AskForNone threads words = (command : Command) → AsksFor words command → runs_threads command ≡ threads → ⊥

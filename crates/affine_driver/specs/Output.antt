@@ -10,9 +10,12 @@ use Rattle.first_path.specs.declared.place.Placement.{Placement}
 use Rattle.first_path.specs.declared.stage.Staged.{Staged}
 use Rattle.first_path.specs.Law.{IsStagedBy, RunsAs}
 use Rattle.affine_ast.specs.Validity.{IsValid}
-use Rattle.direct_meaning.specs.Direct.{plain, state_of}
+use Rattle.direct_meaning.specs.Direct.{Outcome, plain, state_of}
 use Rattle.mem_image.specs.Images as image
+use Rattle.prompt_meaning.specs.Device.{Device}
+use Rattle.prompt_meaning.specs.Prompt.{prompt, prompt_slow}
 use Rattle.run_laws.specs.StaysFitting.{with_slow}
+use Rattle.affine_driver.specs.declared.command.RunOptions.{RunOptions}
 
 -- the block, which is the first and only one, its line and the memref
 unfoldable pub subject_text : ℕ → Name → List ℕ
@@ -53,3 +56,11 @@ pub record IsStageOutput (input : Module) (output : List ℕ) : Type 0 where
 -- what `plain` writes of a module that is run from a memory: the printed image of the memory that the direct meaning leaves
 abbrev pub IsPlainOutput : Module → Image → List ℕ → Type 0
 IsPlainOutput input memory output = output ≡ image.printed input (with_slow memory (state_of (plain input memory)).slow)
+
+-- the prompt meaning of a module from a memory, by the filler and the capacity of the options of a run
+abbrev pub prompted : RunOptions → Module → Image → Outcome Device
+prompted options input memory = prompt input memory options.filler options.capacity
+
+-- what `run` writes of a module that is run from a memory: the printed image of the memory that the prompt meaning leaves
+abbrev pub IsRunOutput : Module → RunOptions → Image → List ℕ → Type 0
+IsRunOutput input options memory output = output ≡ image.printed input (with_slow memory (prompt_slow (prompted options input memory)))

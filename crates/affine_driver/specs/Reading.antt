@@ -1,5 +1,5 @@
 -- What a call of the program reads and writes, and why it ends as it does.
-use Rattle.std.specs.Prelude.{◌≡◌, ◌↔◌, ℕ, ◌<◌, List, length, take, Option}
+use Rattle.std.specs.Prelude.{◌≡◌, ◌↔◌, ℕ, ◌<◌, ◌≤◌, List, length, take, Option}
 use Rattle.std.specs.Io.KnownBytes.{Appends, Consumes, IsAtEnd}
 use Rattle.affine_driver.specs.declared.command.Command.{Command}
 use Rattle.affine_driver.specs.declared.ending.Ending.{Ending}
@@ -84,6 +84,12 @@ Explains command source Cut before now = WritesPart command source before now
 -- why the call ends so, where these are the bytes of the source
 abbrev pub Because : Command → List ℕ → Ending → Option (List ℕ) → Option (List ℕ) → Type 0
 Because command source ending before now = Explains command source (moment_of ending) before now
+
+-- the source gave these bytes, which are all that it had and no more than the limit
+pub record Reads (limit : ℕ) (given left : Option (List ℕ)) (bytes : List ℕ) : Type 0 where
+  pub lost : Consumes given left bytes
+  pub whole : IsAtEnd left
+  pub within : length bytes ≤ limit
 
 -- A call under this command: the source gave these bytes, a byte past the limit exactly where the ending is that it is too
 -- long, and all that it had where the ending comes after reading; and for this reason the ending is this one.

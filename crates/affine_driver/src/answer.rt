@@ -1,10 +1,10 @@
-// What a command writes of a source, or the refusal that it comes to.
-ghost use Rattle.std.specs.Prelude.{◌≡◌, ◌≤◌, length, MatchResult};
+// What a command that runs no threads writes of a source, or the refusal that it comes to.
+ghost use Rattle.std.specs.Prelude.{◌≡◌, ◌≤◌, false, length, MatchResult};
 ghost use Rattle.affine_ast.specs.Spelling.{spelling};
 ghost use Rattle.affine_ast.specs.Validity.{IsValid};
 ghost use Rattle.affine_grammar.specs.Spelling.{Spells};
 ghost use Rattle.affine_driver.specs.Behaviour.{ComesTo};
-ghost use Rattle.affine_driver.specs.Command.{IsAllowed};
+ghost use Rattle.affine_driver.specs.Command.{IsAllowed, runs_threads};
 ghost use Rattle.affine_driver.specs.Outcome.{Answered, Gives};
 ghost use Rattle.affine_driver.specs.Refusals.{IsNotRead, OrMemory};
 
@@ -22,7 +22,7 @@ use std::alloc::Global;
 
 /// The valid module that a text spells.
 #[tactic(auto, using(crate::proofs::Refusals::no_text, crate::proofs::Refusals::rule_broken))]
-fn read(alloc: Global, text: &[u8]) -> Result<Verified, Refusal>
+pub(crate) fn read(alloc: Global, text: &[u8]) -> Result<Verified, Refusal>
     requires { length text.now ≤ SOURCE_LIMIT }
     ensures { MatchResult result (λ verified. Spells text.now verified.inner × IsValid verified.inner) (λ refusal. OrMemory (IsNotRead text.now) refusal) }
 {
@@ -39,10 +39,11 @@ fn checked(alloc: Global, verified: &Verified) -> Result<Vec<u8>, Refusal>
     Ok(output)
 }
 
-/// What the command writes of a source, or the refusal that it comes to.
+/// What a command that runs no threads writes of a source, or the refusal that it comes to.
 #[tactic(auto, using(crate::proofs::Refusals::unread))]
 pub(crate) fn answer_of(alloc: Global, command: Command, source: &[u8]) -> Result<Vec<u8>, Refusal>
     requires allowed { IsAllowed command }
+    requires own { runs_threads command ≡ false }
     requires short { length source.now ≤ SOURCE_LIMIT }
     ensures { Answered result (λ output. output.items) (ComesTo command source.now) }
 {

@@ -128,7 +128,23 @@ fn run_options(values: &[Value]) -> RunOptions
     }
 }
 
+impl Command {
+    /// Whether the command runs a module by threads.
+    pub(crate) fn runs_threads(self) -> bool
+        ensures { result ≡ spec.runs_threads self }
+    {
+        matches!(self, Command::Run(_) | Command::Both(_))
+    }
+}
+
 impl FirstWord {
+    /// Whether the command with this name is one that runs a module by threads.
+    fn takes_threads(self) -> bool
+        ensures { result ≡ spec.takes_threads self }
+    {
+        matches!(self, FirstWord::Run | FirstWord::Both)
+    }
+
     /// Whether the program has the command.
     fn is_built(self) -> bool
         ensures { result ≡ is_there (table.standing_of self) }
@@ -246,7 +262,7 @@ fn command_behind<'a>(
 }
 
 /// The command that the words ask for. Words that don't begin with the name of a command ask for none, and need no memory.
-pub(crate) fn command_of(alloc: Global, words: &[&str]) -> Result<Option<Command>, AllocError>
+fn command_of(alloc: Global, words: &[&str]) -> Result<Option<Command>, AllocError>
     ensures { IfOk result (λ found. (command : Command) → (found ≡ Some command) ↔ spec.AsksFor (map (λ word. word.now) words.entry.now) command) }
 {
     match words {
@@ -255,5 +271,38 @@ pub(crate) fn command_of(alloc: Global, words: &[&str]) -> Result<Option<Command
             None => Ok(None),
         },
         [] => Ok(None),
+    }
+}
+
+/// The command that the words ask for, where it is one that runs threads, or one that doesn't.
+pub(crate) fn command_among(
+    alloc: Global,
+    words: &[&str],
+    threads: bool,
+) -> Result<Option<Command>, AllocError>
+    ensures { IfOk result (λ found. (command : Command) → (found ≡ Some command) ↔ (spec.AsksFor (map (λ word. word.now) words.entry.now) command × (spec.runs_threads command ≡ threads))) }
+{
+    match command_of(alloc, words)? {
+        Some(command) => {
+            if command.runs_threads() == threads {
+                Ok(Some(command))
+            } else {
+                Ok(None)
+            }
+        }
+        None => Ok(None),
+    }
+}
+
+/// Whether the words can only ask for a command that runs a module by threads; else they ask for none of these.
+pub(crate) fn ask_for_threads(words: &[&str]) -> bool
+    ensures { (command : Command) → spec.AsksFor (map (λ word. word.now) words.entry.now) command → spec.runs_threads command ≡ result }
+{
+    match words {
+        [word, ..] => match first_word(word) {
+            Some(first) => first.takes_threads(),
+            None => false,
+        },
+        [] => false,
     }
 }

@@ -1,6 +1,6 @@
-//! The top call: from words, a source and a sink to an ending.
+//! The top calls: from words, a source and a sink to an ending.
 //!
-//! `stage_main` does all that the program does. `specs/Headline` says what a call comes to: which ending comes when, what was read and
+//! `affine_main` does all that the program does: `run_main` the commands that run threads, which may wait, `stage_main` all others. `specs/Headline` says what a call comes to: which ending comes when, what was read and
 //! what was written, that the bytes of the source decide, and that what `stage` writes is a text of a valid module that runs as its
 //! input does. It stands on the words of commands, the parts of a source, the parser, the rules, the printer, the first path, image
 //! texts, the direct meaning and `affine_io`.
@@ -15,8 +15,11 @@ mod limits;
 mod plain;
 mod refusal;
 mod report;
+mod run;
 mod stage;
+mod streams;
 mod table;
+mod threads;
 mod top;
 
 pub use command::{
@@ -26,4 +29,4 @@ pub use ending::Ending;
 pub use laws::{endings_are_exact, table_is_as_written};
 pub use limits::{SOURCE_LIMIT, WORK_LIMIT};
 pub use refusal::Refusal;
-pub use top::stage_main;
+pub use top::{affine_main, run_main, stage_main};

@@ -25,13 +25,13 @@ pub const STAGE_CAPACITY: Standing = Unbuilt;
 
 pub const PLAIN: Standing = Built;
 
-pub const RUN: Standing = Unbuilt;
+pub const RUN: Standing = Built;
 
-pub const RUN_CAPACITY: Standing = Unbuilt;
+pub const RUN_CAPACITY: Standing = Built;
 
-pub const RUN_FILLER: Standing = Unbuilt;
+pub const RUN_FILLER: Standing = Built;
 
-pub const RUN_ENGINES: Standing = Unbuilt;
+pub const RUN_ENGINES: Standing = Built;
 
 pub const ORDER: Standing = Unbuilt;
 

@@ -2,9 +2,13 @@
 #![tactic(auto)]
 
 #[cfg(test)]
+mod calls;
+#[cfg(test)]
 mod copies;
 #[cfg(test)]
 mod expressions;
+#[cfg(test)]
+mod gates;
 #[cfg(test)]
 mod images;
 #[cfg(test)]
@@ -13,6 +17,8 @@ mod integers;
 mod numbers;
 #[cfg(test)]
 mod operations;
+#[cfg(test)]
+mod products;
 #[cfg(test)]
 mod prompt_runs;
 #[cfg(test)]

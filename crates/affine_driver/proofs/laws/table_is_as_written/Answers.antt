@@ -13,6 +13,7 @@ returns c = record {
   check = refl;
   stage = refl;
   plain = refl;
+  run = refl;
   stage_depth = refl;
   stage_dma = refl;
   stage_double = refl;

@@ -1,0 +1,24 @@
+use Rattle.std.proofs.Common.{true, refl, subst}
+use Rattle.affine_driver.specs.declared.limits.TheConstants.{SOURCE_LIMIT}
+use Rattle.affine_driver.specs.Behaviour.{ComesTo}
+use Rattle.affine_driver.specs.Headline.{Decides}
+use Rattle.affine_driver.specs.Outcome.{Answered}
+use Rattle.affine_driver.proofs.Calls.{decided_early, decided, asked}
+use Rattle.affine_driver.proofs.Commands.{allowed}
+use Rattle.affine_driver.proofs.top.run_main.Goals as goal
+
+pub answer_by_threads-requires-clause-allowed : goal.answer_by_threads-requires-clause-allowed
+answer_by_threads-requires-clause-allowed g c κs within = allowed _ c.in-Ok.begun.0 ((c.in-Ok.ensures.asked c.in-Ok.begun.0).1 refl).0
+
+pub returns-in-Err-clause-answers : goal.returns-in-Err-clause-answers
+returns-in-Err-clause-answers g c = λ command asks own. decided_early SOURCE_LIMIT command c.in-Err.ending _ _ _ c.endings_are_exact.ensures.exact (c.in-Err.ensures.answers command _ asks own)
+
+pub returns-clause-words : goal.returns-clause-words
+returns-clause-words g c = λ memory. let is = (c.in-Ok.ensures.asked c.in-Ok.begun.0).1 refl in asked _ c.in-Ok.begun.0 true c.finish.result is.0 is.1 c.finish.ensures.read
+
+pub returns-clause-answers : goal.returns-clause-answers
+returns-clause-answers g c = λ command asks own.
+    let same = (c.in-Ok.ensures.asked command).0 (asks, own) in
+    subst (λ x. Decides SOURCE_LIMIT x c.finish.result (g.S.Source.left c.args.source.now) (g.S.Source.left c.begin.new.source) (g.K.Sink.contents c.args.sink.now) (g.K.Sink.contents c.finish.new.sink)) same
+    (decided SOURCE_LIMIT c.in-Ok.begun.0 c.finish.result _ _ _ _ c.in-Ok.begun.1.items c.endings_are_exact.ensures.exact c.in-Ok.ensures.read c.finish.ensures.read
+    (c.finish.ensures.because c.in-Ok.begun.0 c.in-Ok.begun.1.items (subst (λ b. Answered c.answer_by_threads.result (λ output. output.items) (ComesTo c.in-Ok.begun.0 b)) c.as_slice.ensures.value c.answer_by_threads.ensures)))
