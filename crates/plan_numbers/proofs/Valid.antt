@@ -1,6 +1,6 @@
 -- The tiles are valid, may be staged, and a module staged by their plan is there.
-use Rattle.std.proofs.Common.{◌≡◌, refl, ap, sym, subst, ◌∙◌, ℕ, Bool}
-use Rattle.std.specs.Prelude.{◌&&◌, None}
+use Rattle.std.proofs.Common.{◌≡◌, refl, ap, sym, subst, ◌∙◌, ◌++◌, ℕ, List, Bool, arith}
+use Rattle.std.specs.Prelude.{◌&&◌, None, map, false}
 use Rattle.affine_expr.specs.declared.expr.Expr.{Expr, Add, fold-Expr, fold-roll-Expr}
 use Rattle.affine_expr.specs.declared.expr.Expr.TheVariants.{rolls-Add}
 use Rattle.affine_expr.specs.declared.expr.Expr.TheOpen.{Expr-F}
@@ -9,7 +9,7 @@ use Rattle.affine_expr.specs.Pure.{Purity, purity_step, is_pure, leaves_step, ha
 use Rattle.affine_ast.specs.declared.module.Module.{Module}
 use Rattle.affine_ast.specs.Intervals.{first_turn, last_end}
 use Rattle.affine_ast.specs.Names.{same_name, put}
-use Rattle.affine_ast.specs.Nest.{nest}
+use Rattle.affine_ast.specs.Nest.{Nest, nest}
 use Rattle.affine_ast.specs.PlainLimits.{is_short, access_short, plain_told, line_of_fault, plain_fault}
 use Rattle.affine_ast.specs.Rules.{is_in, are_in, is_dimension, is_symbol, is_value, operands_stand, is_memref_of, is_of, same_type, in_signed_range, map_fits, subscripts_fit, access_pure, is_small_dimension, has_interval, access_bounded, sizes_positive, shape_within}
 use Rattle.affine_ast.specs.Scope.{ranges_in}
@@ -24,7 +24,14 @@ use Rattle.lined_modules.proofs.Trees.{made}
 use Rattle.plan_laws.specs.Sites.{lined}
 use Rattle.plan_laws.specs.Plan.{planned, planned_text}
 use Rattle.plan_theorem.specs.Law.{of_text, IsWritten, IsStagedModule}
-use Rattle.plan_theorem.proofs.Theorem.{plan_runs}
+use Rattle.placement_texts.specs.Renamed.{named}
+use Rattle.normal_texts.specs.Texts.{normal_text, IsNormal}
+use Rattle.numbered_names.specs.Numbers.{defined, value_names, prefix, begins, numbered_name, numbered_arg, IsNumbered}
+use Rattle.stage_laws.specs.Law.{IsStageOf}
+use Rattle.stage_laws.proofs.Law.{stage_runs}
+use Rattle.affine_ast.specs.declared.module.Arg.{Arg}
+use Rattle.affine_ast.specs.declared.name.Name.{Name}
+use Rattle.std.specs.List.{list_any}
 use Rattle.plan_numbers.specs.Modules.{tiles}
 use Rattle.plan_numbers.specs.Law.{with_transfers, TilesAreStaged}
 use Rattle.plan_numbers.proofs.Folds.{bounds, spread_parts}
@@ -73,12 +80,51 @@ planned_is = ap (λ n. staged_all (planned (with_transfers 64) tiles.args n).ste
 tiles_staged : IsStagedModule (with_transfers 64) tiles staged_tiles
 tiles_staged = record { arguments = refl; body = staged_is ∙ sym planned_is }
 
+-- its subscripts as the grammar reads them
+abbrev ordered_tiles : Module
+ordered_tiles = record tiles { body = stmts_of (normal_text text) }
+
+ordered_is : nest ordered_tiles.body ≡ normal_text text
+ordered_is = made (normal_text text) ((tt, tt), tt)
+
+tiles_ordered : IsNormal staged_tiles ordered_tiles
+tiles_ordered = record { arguments = refl; body = ordered_is ∙ ap normal_text (sym staged_is) }
+
+-- and its names numbered
+abbrev number : Name → Name
+number = numbered_name 0 (value_names ordered_tiles)
+
+abbrev numbered_tiles : Module
+numbered_tiles = record ordered_tiles { args = map (numbered_arg number) tiles.args; body = stmts_of (named number (normal_text text)) }
+
+abbrev its_names : Nest → List Name
+its_names n = map (λ (arg : Arg). arg.name) tiles.args ++ defined n
+
+copy_free : list_any (begins (prefix 0)) (its_names (normal_text text)) ≡ false
+unfolding defined same_name
+copy_free = refl
+
+no_copy : list_any (begins (prefix 0)) (value_names ordered_tiles) ≡ false
+no_copy = ap (λ n. list_any (begins (prefix 0)) (its_names n)) ordered_is ∙ copy_free
+
+tiles_numbered : IsNumbered ordered_tiles numbered_tiles
+tiles_numbered = record {
+  underscore_count = 0;
+  prefix_is = record { free = no_copy; least = λ j less. absurd (omega (arith, less)) };
+  name = refl;
+  args = refl;
+  body = made (named number (normal_text text)) ((tt, tt), tt) ∙ ap (named number) (sym ordered_is);
+}
+
+tiles_stage : IsStageOf (with_transfers 64) tiles numbered_tiles
+tiles_stage = record { placed = staged_tiles; ordered = ordered_tiles; is_placed = tiles_staged; is_ordered = tiles_ordered; is_numbered = tiles_numbered }
+
 pub tiles_are_staged : TilesAreStaged
 tiles_are_staged = record {
   valid = tiles_valid;
   may_be_staged = tiles_may_be_staged;
   written = tiles_written;
-  staged = staged_tiles;
-  is = tiles_staged;
-  runs = plan_runs (with_transfers 64) tiles staged_tiles tiles_valid tiles_may_be_staged tiles_written tiles_staged;
+  staged = numbered_tiles;
+  is = tiles_stage;
+  runs = stage_runs (with_transfers 64) tiles numbered_tiles tiles_valid tiles_may_be_staged tiles_written tiles_stage;
 }

@@ -11,7 +11,8 @@ use Rattle.nest_domain.specs.declared.plan.Options.{Options}
 use Rattle.nest_domain.specs.declared.plan.Outcome.TheVariants as outcome
 use Rattle.nest_domain.specs.Boxes.{Dimension}
 use Rattle.plan_laws.specs.Plan.{plan}
-use Rattle.plan_theorem.specs.Law.{IsWritten, IsStagedModule, RunsAsPlanned}
+use Rattle.plan_theorem.specs.Law.{IsWritten}
+use Rattle.stage_laws.specs.Law.{IsStageOf, RunsAsOriginal}
 use Rattle.plan_numbers.specs.Modules.{no_turn, tiles}
 
 abbrev pub with_loops : Options
@@ -43,12 +44,12 @@ pub record PlansAre : Type 0 where
   pub staged : plan (with_transfers 64) tiles ≡ staged_tile
   pub capacity : plan (with_transfers 63) tiles ≡ left 0 3 cause.Capacity
 
--- so the law of the plan speaks of something: the tiles meet what it asks, there is a module with their plan's placement, and it runs
+-- so the law of staging speaks of something: the tiles meet what it asks, there is the module that staging makes of them, and it runs
 -- as they do
 pub record TilesAreStaged : Type 0 where
   pub valid : IsValid tiles
   pub may_be_staged : plain_fault tiles ≡ None
   pub written : IsWritten tiles
   pub staged : Module
-  pub is : IsStagedModule (with_transfers 64) tiles staged
-  pub runs : RunsAsPlanned (with_transfers 64) tiles staged
+  pub is : IsStageOf (with_transfers 64) tiles staged
+  pub runs : RunsAsOriginal (with_transfers 64) tiles staged

@@ -8,7 +8,7 @@ pub fn plans_are()
     ensures { PlansAre }
 {}
 
-/// The tiles are valid and may be staged, and a module with the placement of their plan runs as they do.
+/// The tiles are valid and may be staged, and the module that staging makes of them runs as they do.
 pub fn tiles_are_staged()
     ensures { TilesAreStaged }
 {}
