@@ -11,7 +11,8 @@ use Rattle.box_run_laws.specs.Law.{Agrees}
 use Rattle.normal_texts.proofs.Texts.{normal_is_the_same}
 use Rattle.numbered_names.proofs.Laws.{numbered_valid, numbered_runs, numbered_fits}
 use Rattle.plan_theorem.proofs.Theorem.{plan_runs}
-use Rattle.stage_laws.specs.Law.{StageRuns}
+use Rattle.stage_laws.specs.Law.{StageRuns, TextsStage}
+use Rattle.stage_laws.proofs.Written.{is_written}
 
 same_kind : (k j : FaultKind) → verdict.Fault k ≡ verdict.Fault j → k ≡ j
 same_kind k j h = cc
@@ -38,3 +39,6 @@ stage_runs o m q valid v13 written is =
           let r = numbered_runs is.ordered q is.is_numbered n.valid memory (fits memory f) filler o.capacity in
           agrees_with (plain m memory) (prompt is.ordered memory filler o.capacity) (prompt q memory filler o.capacity) (subst (Agrees (plain m memory)) (sym (n.runs memory filler o.capacity)) (p.runs memory f filler)) r.0 r.1;
     }
+
+pub texts_stage : TextsStage
+texts_stage o source m q short spells valid v13 is = stage_runs o m q valid v13 (is_written source m short spells v13) is

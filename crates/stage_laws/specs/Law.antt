@@ -1,9 +1,10 @@
 -- The module that staging makes of a module, without doubling, and the law that it is valid and runs as the module.
-use Rattle.std.specs.Prelude.{◌≡◌, ℤ, None}
+use Rattle.std.specs.Prelude.{◌≡◌, ℕ, ◌<◌, ◌^◌, ℤ, List, length, None}
 use Rattle.affine_ast.specs.declared.image.Image.{Image}
 use Rattle.affine_ast.specs.declared.module.Module.{Module}
 use Rattle.affine_ast.specs.PlainLimits.{plain_fault}
 use Rattle.affine_ast.specs.Validity.{IsValid}
+use Rattle.affine_grammar.specs.Spelling.{Spells}
 use Rattle.direct_meaning.specs.Direct.{plain}
 use Rattle.direct_meaning.specs.Memory.{Fits}
 use Rattle.prompt_meaning.specs.Prompt.{prompt}
@@ -32,3 +33,7 @@ pub record RunsAsOriginal (o : Options) (m q : Module) : Type 0 where
 -- for every valid module that meets V13 and has the names of a text, whatever the options
 abbrev pub StageRuns : Type 0
 StageRuns = (o : Options) (m q : Module) → IsValid m → plain_fault m ≡ None → IsWritten m → IsStageOf o m q → RunsAsOriginal o m q
+
+-- so for every module that a text spells
+abbrev pub TextsStage : Type 0
+TextsStage = (o : Options) (source : List ℕ) (m q : Module) → length source < 2 ^ 64 → Spells source m → IsValid m → plain_fault m ≡ None → IsStageOf o m q → RunsAsOriginal o m q
