@@ -1,0 +1,4 @@
+pub mod Steps
+pub mod Products
+pub mod Lessened
+pub mod Looped

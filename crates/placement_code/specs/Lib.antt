@@ -1,0 +1,4 @@
+pub mod Beginnings
+pub mod Small
+pub mod Redirects
+pub mod Placed
