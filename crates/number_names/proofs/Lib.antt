@@ -1,0 +1,5 @@
+pub mod Listing
+pub mod Places
+pub mod Prefixes
+pub mod Renamings
+pub mod Numbered

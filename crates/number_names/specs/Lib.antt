@@ -1,0 +1,2 @@
+pub mod Underscores
+pub mod Renaming
