@@ -6,6 +6,6 @@ pub mod Regions
 pub mod Widening
 pub mod Widened
 pub mod Places
-pub mod PlaceRanges
+pub mod Finding
 pub mod Covers
 pub mod Laws

@@ -8,7 +8,8 @@ ghost use Rattle.access_region.specs.Candidates.{subscript, first_at, replaced_o
 
 use crate::fault::RegionFault;
 use crate::multiple::plus_multiple;
-use crate::reaching::{Going, Reaching, filled};
+use crate::reaching::{Reaching, filled};
+use nest_domain::LoopForms;
 use std::alloc::{AllocError, Global};
 use std::marker::Model;
 
@@ -34,7 +35,7 @@ impl Model for Candidate {
 }
 
 /// The coefficients of the first lower, or upper, result of a loop.
-fn first_at(end: End, going: &Going) -> &[i128]
+fn first_at(end: End, going: &LoopForms) -> &[i128]
     ensures { result.now ≡ first_at end going.now }
 {
     let forms = match end {
@@ -85,7 +86,7 @@ fn replaced(
     alloc: Global,
     end: End,
     outer: u32,
-    goings: &[Going],
+    goings: &[LoopForms],
     coefs: &[i128],
 ) -> Result<Vec<i128>, RegionFault>
     ensures { Meets (by_elimination (replaced end outer goings.now (length goings.now) coefs.now)) (λ out. out.items) result }
@@ -105,7 +106,7 @@ fn replaced(
 }
 
 /// The loops behind the first ones.
-fn behind(goings: &[Going], outside: usize) -> &[Going]
+fn behind(goings: &[LoopForms], outside: usize) -> &[LoopForms]
     ensures { result.now ≡ drop outside goings.now }
 {
     if outside < goings.len() {

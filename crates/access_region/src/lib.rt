@@ -3,18 +3,22 @@
 
 ghost use Rattle.access_region.specs.Laws.{RegionsLieWithin, RegionsHold, RegionsAreOver, CoveredIsSwept};
 
+mod at;
 mod candidate;
 mod dimension;
 mod fault;
-mod interval;
+mod fits;
+mod gather;
 mod multiple;
 mod reaching;
 mod region;
 mod span;
 mod widening;
 
+pub use at::{region_of, region_of_uses};
 pub use fault::RegionFault;
-pub use reaching::{Going, Outside, Reaching};
+pub use gather::outside_of;
+pub use reaching::{Outside, Reaching};
 pub use region::region_from;
 
 /// At all whole values of the outer variables and the locals that meet the rows of the loop's outside the region lies within the memref.

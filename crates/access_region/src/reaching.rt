@@ -1,33 +1,18 @@
 //! What a region asks of the accesses of a memref, and of the outside of its loop.
 
-ghost use Rattle.std.specs.Prelude.{◌≡◌, [], IfOk};
+ghost use Rattle.std.specs.Prelude.{◌≡◌, IfOk};
 ghost use Rattle.access_region.specs.Candidates.{subscript, filled};
 
 use affine_expr::{Combination, Interval};
 use constraint_set::System;
+use nest_domain::LoopForms;
 use std::alloc::{AllocError, Global};
 use std::marker::Model;
-
-/// What a loop goes over: the forms of its lower and of its upper results, and its step.
-#[derive(Drop)]
-pub struct Going {
-    pub lowers: Vec<Combination>,
-    pub uppers: Vec<Combination>,
-    pub step: i64,
-}
-
-impl Model for Going {
-    ghost use Rattle.nest_domain.specs.Domains as domains;
-
-    ghost Value = { domains.Going };
-
-    ghost view = { λ g. record { lowers = g.lowers.items; uppers = g.uppers.items; step = g.step } };
-}
 
 /// An affine access: the loops round it, its rows, the forms of its subscripts and their intervals.
 #[derive(Drop)]
 pub struct Reaching {
-    pub goings: Vec<Going>,
+    pub goings: Vec<LoopForms>,
     pub system: System,
     pub forms: Vec<Combination>,
     pub ranges: Vec<Interval>,

@@ -6,7 +6,7 @@ ghost use Rattle.access_region.specs.Places.{kept_where, region_from};
 
 use crate::dimension::box_of;
 use crate::fault::RegionFault;
-use crate::interval::region_fits;
+use crate::fits::region_fits;
 use crate::reaching::{Outside, Reaching};
 use crate::widening::widen_for_transfers;
 use nest_domain::Region;

@@ -1,8 +1,0 @@
-use Rattle.std.proofs.Common.{◌≡◌, drop}
-use Rattle.affine_expr.specs.Bounded.{ranges}
-use Rattle.access_region.specs.Places.{place_ranges}
-use Rattle.access_region.proofs.FormRanges.{before}
-use Rattle.access_region.proofs.interval.place_ranges.Given as goal
-
-abbrev pub invariant-loop-number : goal.invariant-loop-number
-invariant-loop-number l = place_ranges (ranges l.intervals) l.sizes l.dims ≡ before (ranges l.places.items) (place_ranges (ranges l.intervals) (drop l.number l.sizes) (drop l.number l.dims))

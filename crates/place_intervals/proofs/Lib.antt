@@ -1,0 +1,4 @@
+pub mod Outsides
+pub mod PlaceRanged
+pub mod FormRanges
+pub mod FitLoops

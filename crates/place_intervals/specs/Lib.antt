@@ -1,0 +1,2 @@
+pub mod TermRanges
+pub mod Places
