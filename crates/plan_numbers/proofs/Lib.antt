@@ -1,3 +1,5 @@
 mod Folds
 pub mod Plans
+pub mod Copies
+pub mod Rows
 pub mod Valid

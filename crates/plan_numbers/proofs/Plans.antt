@@ -39,25 +39,25 @@ use Rattle.plan_laws.specs.Limits.{keeps_limits, keeps_intervals}
 use Rattle.nest_domain.specs.declared.plan.Cause.TheVariants as cause
 use Rattle.plan_laws.specs.Plan.{Site, Asked, Unstaged, Placed, region_at, hoisted_by, hoisted, step_at, tested_in, settled_at, settled_from, steps_with, decision, planned}
 use Rattle.plan_numbers.specs.Modules.{A, it, i, loaded, raised, c, at, slow, no_turn, tiles}
-use Rattle.plan_numbers.specs.Law.{with_loops, with_transfers, left, tile, staged_tile, PlansAre}
+use Rattle.plan_numbers.specs.Law.{with_loops, with_transfers, left, tile, staged_tile}
 use Rattle.plan_numbers.proofs.Folds.{numbers_of, bounds, spread_parts}
 
 -- ---- the loop without turns
-abbrev still : Nest
+abbrev pub still : Nest
 still =
     Loop 2 i (bound.Int (pos 5)) (bound.Int (pos 5)) (pos 1)
     (Does 3 (Load loaded A (at (Dim 0) i) (slow 8))
     (Does 4 (Store loaded A (at (Dim 0) i) (slow 8)) Nothing))
     (Does 6 Return Nothing)
 
-still_is : nest no_turn.body ≡ still
+pub still_is : nest no_turn.body ≡ still
 still_is = simp nests refl
 
 no_region_there : region_at with_loops no_turn.args still A (slow 8) Here ≡ Err unplaced
 unfolding region_of uses used padded minus along place system_of row_at access reach_of emptiness valued greatest_lower least_upper tidied pair_of step steps eliminated same_name put join_forms scale_form number_form variable_form floored_form rest_form raised_form floor_div narrowed combined gcd_of first_turn last_end
 no_region_there = simp overs refl
 
-unstaged : (planned with_loops no_turn.args still).decisions ≡ left 0 2 cause.Region
+pub unstaged : (planned with_loops no_turn.args still).decisions ≡ left 0 2 cause.Region
 unfolding planned same_name
 unstaged = simp no_region_there refl
 
@@ -147,7 +147,7 @@ settles capacity =
 abbrev asked_one : Asked
 asked_one = record { block = 0; at = Inside Here; memref = A }
 
-staged : (planned (with_transfers 64) tiles.args round).decisions ≡ staged_tile
+pub staged : (planned (with_transfers 64) tiles.args round).decisions ≡ staged_tile
 unfolding planned same_name
 staged = ap (λ y. decision (with_transfers 64) tiles.args round asked_one y ∷ []) (settles 64 ∙ fits)
 
@@ -155,13 +155,6 @@ pub steps_are : (planned (with_transfers 64) tiles.args round).steps ≡ placed 
 unfolding planned same_name
 steps_are = ap (steps_with (with_transfers 64) tiles.args round []) (settles 64 ∙ fits)
 
-refused : (planned (with_transfers 63) tiles.args round).decisions ≡ left 0 3 cause.Capacity
+pub refused : (planned (with_transfers 63) tiles.args round).decisions ≡ left 0 3 cause.Capacity
 unfolding planned same_name
 refused = ap (λ y. decision (with_transfers 63) tiles.args round asked_one y ∷ []) (settles 63 ∙ passes)
-
-pub plans : PlansAre
-plans = record {
-  no_region = ap (λ n. (planned with_loops no_turn.args n).decisions) still_is ∙ unstaged;
-  staged = ap (λ n. (planned (with_transfers 64) tiles.args n).decisions) round_is ∙ staged;
-  capacity = ap (λ n. (planned (with_transfers 63) tiles.args n).decisions) round_is ∙ refused;
-}

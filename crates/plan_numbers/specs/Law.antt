@@ -13,7 +13,7 @@ use Rattle.nest_domain.specs.Boxes.{Dimension}
 use Rattle.plan_laws.specs.Plan.{plan}
 use Rattle.plan_theorem.specs.Law.{IsWritten}
 use Rattle.stage_laws.specs.Law.{IsStageOf, RunsAsOriginal}
-use Rattle.plan_numbers.specs.Modules.{no_turn, tiles}
+use Rattle.plan_numbers.specs.Modules.{no_turn, tiles, raised_copy}
 
 abbrev pub with_loops : Options
 with_loops = record { depth = 0; dma = false; double = false; capacity = 1048576; buffers = 2 }
@@ -27,6 +27,16 @@ left block line c = record { block = block; line = line; memref = 0; outcome = o
 -- sixteen elements from the tile's first one on
 abbrev pub tile : List Dimension
 tile = record { coefs = pos 1 ∷ []; offset = pos 0; extent = pos 16; clamped = false } ∷ []
+
+-- all of a memref of 8 elements
+abbrev pub all_eight : List Dimension
+all_eight = record { coefs = []; offset = pos 0; extent = pos 8; clamped = false } ∷ []
+
+-- the first is read in, the second read in and written out
+abbrev pub both_staged : List Decision
+both_staged =
+    record { block = 0; line = 2; memref = 0; outcome = outcome.Staged (record { steps = (0, false) ∷ [] }) all_eight true false doubling.NotAsked }
+    ∷ record { block = 0; line = 2; memref = 1; outcome = outcome.Staged (record { steps = (0, false) ∷ [] }) all_eight true true doubling.NotAsked } ∷ []
 
 abbrev pub staged_tile : List Decision
 staged_tile = record {
@@ -43,6 +53,8 @@ pub record PlansAre : Type 0 where
   -- isn't hoisted
   pub staged : plan (with_transfers 64) tiles ≡ staged_tile
   pub capacity : plan (with_transfers 63) tiles ≡ left 0 3 cause.Capacity
+  -- by copy loops both memrefs are staged whole
+  pub two : plan with_loops raised_copy ≡ both_staged
 
 -- so the law of staging speaks of something: the tiles meet what it asks, there is the module that staging makes of them, and it runs
 -- as they do

@@ -20,6 +20,9 @@ named text = record { text = text; made = false }
 abbrev pub A : Name
 A = named (codes "A")
 
+abbrev pub B : Name
+B = named (codes "B")
+
 abbrev pub it : Name
 it = named (codes "it")
 
@@ -77,4 +80,18 @@ tiles = record {
       stmt 2 (For it (bound.Int (pos 0)) (bound.Int (pos 64)) (pos 16) (
       stmt 3 (For i (bound.Map (at (Dim 0) it)) (bound.Map (at (Add (Dim 0) (Const (pos 16))) it)) (pos 1) (raises 64 4)) ∷ []))
       ∷ stmt 10 Return ∷ [];
+}
+
+-- each of 8 numbers of A, raised by 1, goes to B
+abbrev pub raised_copy : Module
+raised_copy = record {
+  name = codes "inc";
+  args = record { name = A; kind = Memref (slow 8); line = 1 } ∷ record { name = B; kind = Memref (slow 8); line = 1 } ∷ [];
+  body =
+      stmt 2 (For i (bound.Int (pos 0)) (bound.Int (pos 8)) (pos 1) (
+      stmt 3 (Load loaded A (at (Dim 0) i) (slow 8))
+      ∷ stmt 4 (Constant c (pos 1) (scalar.Int I32))
+      ∷ stmt 5 (Binary raised op.Add loaded c (scalar.Int I32))
+      ∷ stmt 6 (Store raised B (at (Dim 0) i) (slow 8)) ∷ []))
+      ∷ stmt 8 Return ∷ [];
 }

@@ -1,4 +1,4 @@
-use Rattle.plan_numbers.proofs.Plans.{plans}
+use Rattle.plan_numbers.proofs.Rows.{plans}
 use Rattle.plan_numbers.proofs.plans_are.Goals as goal
 
 pub returns : goal.returns
