@@ -1,0 +1,4 @@
+pub mod Places
+pub mod Stages
+pub mod Law
+pub mod All
