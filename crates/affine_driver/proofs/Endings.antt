@@ -12,7 +12,8 @@ use Rattle.bus_model.specs.declared.step.Verdict.{Verdict}
 use Rattle.bus_model.specs.declared.step.Verdict.TheVariants as verdict
 use Rattle.direct_meaning.specs.Direct.{plain, verdict_of}
 use Rattle.direct_meaning.specs.Work.{work}
-use Rattle.prompt_meaning.specs.Prompt.{prompt_verdict}
+use Rattle.prompt_meaning.specs.Prompt.{prompt_verdict, prompt_slow}
+use Rattle.run_laws.specs.StaysFitting.{with_slow}
 use Rattle.copy_emit.specs.FirstPlan.{Planned, first_plan, first_staged}
 use Rattle.copy_emit.specs.Law.{staged}
 use Rattle.first_path.specs.declared.place.Placement.{Placement}
@@ -21,9 +22,11 @@ use Rattle.first_path.proofs.Forms.{one_loop}
 use Rattle.first_path.specs.Form.{IsOfFirstForm}
 use Rattle.mem_image.specs.Images as image
 use Rattle.mem_image.specs.Laws.{SpellsOne, BreaksOne, NotBoth}
+use Rattle.order_meaning.specs.Listed.{ListsOne}
 use Rattle.source_parts.specs.Parts.{text_part, image_part}
 use Rattle.affine_driver.specs.declared.command.Command.{Command}
-use Rattle.affine_driver.specs.declared.command.Command.TheVariants.{Check, Stage, Plain, Run}
+use Rattle.affine_driver.specs.declared.command.OrderOptions.{OrderOptions}
+use Rattle.affine_driver.specs.declared.command.Command.TheVariants.{Check, Stage, Plain, Run, Order}
 use Rattle.affine_driver.specs.declared.ending.Ending.{Ending}
 use Rattle.affine_driver.specs.declared.ending.Ending.TheVariants as end
 use Rattle.affine_driver.specs.declared.refusal.Refusal.{Refusal}
@@ -31,8 +34,9 @@ use Rattle.affine_driver.specs.declared.refusal.Refusal.TheVariants.{Text, Inval
 use Rattle.affine_driver.specs.Behaviour.{Limited, OfFirstForm, RunsToEnd, Makes, ComesTo, Refuses, Completes}
 use Rattle.affine_driver.specs.Laws.{IsOpen, IsBuilt, EndingsAreExact, HasOneOutput}
 use Rattle.affine_driver.specs.Outcome.{Outcome, Refused, Complete, Writes, Demands, Gives}
-use Rattle.affine_driver.specs.Output.{report, prompted, IsStageOutput, IsPlainOutput, IsRunOutput}
+use Rattle.affine_driver.specs.Output.{report, prompted, order_text, IsStageOutput, IsPlainOutput, IsRunOutput, IsOrderOutput}
 use Rattle.affine_driver.specs.Reading.{Because}
+use Rattle.affine_driver.proofs.Orders.{same_numbers}
 use Rattle.affine_driver.specs.Refusals.{ending_of, SpellsNone, BreaksRule, BreaksLimits, IsOtherForm, SpellsNoImage, work_limit, IsTooMuch, StopsAt, OrMemory}
 
 -- ---- Some values differ
@@ -126,6 +130,7 @@ pub record TextLaws : Type 0 where
 pub record Known : Type 0 where
   pub texts : TextLaws
   pub images : ImageLaws
+  pub lists : ListsOne
 
 text_decided : TextLaws → (text : List ℕ) → Decided (SpellsNone text) (Spells text)
 text_decided laws text = record {
@@ -214,12 +219,19 @@ one_staged input output other h k =
 same_output : (text output other : List ℕ) → output ≡ text → other ≡ text → output ≡ other
 same_output text output other h k = h ∙ sym k
 
+one_order : ListsOne → (input : Module) (options : OrderOptions) (memory : ast.Image) (output other : List ℕ) → IsOrderOutput input options memory output → IsOrderOutput input options memory other → output ≡ other
+one_order lists input options memory output other h k =
+    let printed = image.printed input (with_slow memory (prompt_slow (prompted options.run input memory))) in
+    let same = same_numbers lists _ options.pick h.ordered k.ordered h.runs k.runs in
+    h.text ∙ ap (λ x. printed ++ order_text x h.ordered.steps) same.0 ∙ ap (λ x. printed ++ order_text k.ordered.trace x) same.1 ∙ sym k.text
+
 -- one line a command
 makes_once : Known → (command : Command) (text : List ℕ) (input : Module) → Once (Makes command input text)
 makes_once known Check text input = given (λ output. output ≡ spelling input) (same_output (spelling input))
 makes_once known (Stage options) text input = limited input _ (of_form input _ (given _ (λ output other h k. one_staged input output other h.0 k.0)))
 makes_once known Plain text input = limited input _ (runs_to_end known.images input text (λ memory. verdict_of (plain input memory)) _ (λ memory. given (IsPlainOutput input memory) (same_output _)))
 makes_once known (Run options) text input = runs_to_end known.images input text (λ memory. prompt_verdict (prompted options input memory)) _ (λ memory. given (IsRunOutput input options memory) (same_output _))
+makes_once known (Order options) text input = runs_to_end known.images input text (λ memory. prompt_verdict (prompted options.run input memory)) _ (λ memory. given (IsOrderOutput input options memory) (one_order known.lists input options memory))
 makes_once known unbuilt text input = λ a b h k. absurd h
 
 comes_once : Known → (command : Command) (source : List ℕ) → Once (ComesTo command source)

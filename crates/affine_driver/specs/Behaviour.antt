@@ -16,10 +16,10 @@ use Rattle.mem_image.specs.Images as image
 use Rattle.source_parts.specs.Parts.{text_part, image_part}
 use Rattle.staged_texts.specs.Laws.{SpellsStaged}
 use Rattle.affine_driver.specs.declared.command.Command.{Command}
-use Rattle.affine_driver.specs.declared.command.Command.TheVariants.{Check, Stage, Plain, Run}
+use Rattle.affine_driver.specs.declared.command.Command.TheVariants.{Check, Stage, Plain, Run, Order}
 use Rattle.affine_driver.specs.declared.refusal.Refusal.{Refusal}
 use Rattle.affine_driver.specs.Outcome.{Outcome, Refused, Complete, Writes, Demands, Gives}
-use Rattle.affine_driver.specs.Output.{IsStageOutput, IsPlainOutput, IsRunOutput, prompted}
+use Rattle.affine_driver.specs.Output.{IsStageOutput, IsPlainOutput, IsRunOutput, IsOrderOutput, prompted}
 use Rattle.affine_driver.specs.Refusals.{SpellsNone, BreaksRule, BreaksLimits, IsOtherForm, SpellsNoImage, work_limit, IsTooMuch, StopsAt}
 
 -- ---- Demands
@@ -52,12 +52,13 @@ RunsToEnd input text run Behind = Demands (SpellsNoImage text input) (image.Spel
 -- What a command makes of a valid module and the text of an image, one line a command: what it demands beyond the rules V1 to V12, in the
 -- order in which it is asked for, and what it writes. `check` writes the module's printed spelling, `stage` its output, which spells a
 -- valid module that runs as the module does, `plain` the printed image of the memory that the direct meaning leaves, `run` that of the
--- memory that the prompt meaning leaves.
+-- memory that the prompt meaning leaves, `order` the same with the trace and the number of steps of the run that the pick names.
 abbrev pub Makes : Command → Module → List ℕ → Outcome → Type 0
 Makes Check input text outcome = Gives (λ output. output ≡ spelling input) outcome
 Makes (Stage options) input text outcome = Limited input (OfFirstForm input (Gives (λ output. IsStageOutput input output × SpellsStaged input output))) outcome
 Makes Plain input text outcome = Limited input (RunsToEnd input text (λ memory. verdict_of (plain input memory)) (λ memory. Gives (IsPlainOutput input memory))) outcome
 Makes (Run options) input text outcome = RunsToEnd input text (λ memory. prompt_verdict (prompted options input memory)) (λ memory. Gives (IsRunOutput input options memory)) outcome
+Makes (Order options) input text outcome = RunsToEnd input text (λ memory. prompt_verdict (prompted options.run input memory)) (λ memory. Gives (IsOrderOutput input options memory)) outcome
 Makes unbuilt input text outcome = ⊥
 
 -- what a source comes to under a command: its text spells a valid module, of which, with its image, the command makes this

@@ -5,7 +5,8 @@
 -- every other ending has its reason in the bytes, or is a fault of the source, its length or want of memory (`Answers`). The bytes
 -- decide: no other refusal has its reason, and where the source has what the command asks for, the output was built (`IsExact`).
 -- What each command demands and writes is one table (`Behaviour`): the output of `stage` is the text of a valid module that runs as
--- the source's module does, and that of `plain` is the memory which its direct meaning leaves.
+-- the source's module does, that of `plain` is the memory which its direct meaning leaves, and those of `run` and `order` are the memory
+-- which its prompt meaning leaves, for `order` with the trace and the number of steps of a run of the machine of all orders.
 use Rattle.std.specs.Prelude.{◌≡◌, ℕ, Bool, List, Option}
 use Rattle.affine_driver.specs.declared.command.Command.{Command}
 use Rattle.affine_driver.specs.declared.ending.Ending.{Ending}

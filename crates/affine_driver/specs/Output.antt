@@ -1,5 +1,5 @@
 -- What a command writes.
-use Rattle.std.specs.Prelude.{◌≡◌, ℕ, ◌*◌, ◌≤◌, Bool, true, false, List, ◌++◌, nat_eq, if◌then◌else◌, codes}
+use Rattle.std.specs.Prelude.{◌≡◌, ℕ, ◌+◌, ◌*◌, ◌≤◌, Bool, true, false, List, ◌++◌, nat_eq, if◌then◌else◌, codes}
 use Rattle.std.specs.Fmt.{decimal}
 use Rattle.std.specs.List.{flat_map}
 use Rattle.affine_ast.specs.declared.image.Image.{Image}
@@ -12,9 +12,12 @@ use Rattle.first_path.specs.Law.{IsStagedBy, RunsAs}
 use Rattle.affine_ast.specs.Validity.{IsValid}
 use Rattle.direct_meaning.specs.Direct.{Outcome, plain, state_of}
 use Rattle.mem_image.specs.Images as image
+use Rattle.order_machine.specs.declared.orders.Ordered.{Ordered}
+use Rattle.order_machine.specs.Orders.{RunsOrder, setting}
 use Rattle.prompt_meaning.specs.Device.{Device}
 use Rattle.prompt_meaning.specs.Prompt.{prompt, prompt_slow}
 use Rattle.run_laws.specs.StaysFitting.{with_slow}
+use Rattle.affine_driver.specs.declared.command.OrderOptions.{OrderOptions}
 use Rattle.affine_driver.specs.declared.command.RunOptions.{RunOptions}
 
 -- the block, which is the first and only one, its line and the memref
@@ -64,3 +67,16 @@ prompted options input memory = prompt input memory options.filler options.capac
 -- what `run` writes of a module that is run from a memory: the printed image of the memory that the prompt meaning leaves
 abbrev pub IsRunOutput : Module → RunOptions → Image → List ℕ → Type 0
 IsRunOutput input options memory output = output ≡ image.printed input (with_slow memory (prompt_slow (prompted options input memory)))
+
+-- the trace of a run and the number of its steps, a line each
+unfoldable pub order_text : ℕ → ℕ → List ℕ
+order_text trace steps = codes "trace " ++ (decimal trace ++ (codes "\nsteps " ++ (decimal steps ++ codes "\n")))
+
+-- What `order` writes of a module that is run from a memory: the printed image of the memory that the prompt meaning leaves, and the trace
+-- and the number of steps of the run that the pick names, of the machine whose engines move elements one by one.
+pub record IsOrderOutput (input : Module) (options : OrderOptions) (memory : Image) (output : List ℕ) : Type 0 where
+  pub ordered : Ordered
+  pub runs : RunsOrder (setting input memory options.run.filler options.run.capacity options.run.engines) options.pick ordered
+  -- so many steps, whatever the pick and the number of engines
+  pub count : ordered.steps ≡ (state_of (prompted options.run input memory)).actions + (state_of (prompted options.run input memory)).engine_steps
+  pub text : output ≡ image.printed input (with_slow memory (prompt_slow (prompted options.run input memory))) ++ order_text ordered.trace ordered.steps

@@ -84,6 +84,7 @@ pub record IsAsWritten : Type 0 where
   pub stage : standing_of first.Stage ≡ Built
   pub plain : standing_of first.Plain ≡ Built
   pub run : standing_of first.Run ≡ Built
+  pub order : standing_of first.Order ≡ Built
   pub stage_depth : STAGE_DEPTH ≡ Unbuilt
   pub stage_dma : STAGE_DMA ≡ Unbuilt
   pub stage_double : STAGE_DOUBLE ≡ Unbuilt

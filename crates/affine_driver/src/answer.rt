@@ -10,6 +10,7 @@ ghost use Rattle.affine_driver.specs.Refusals.{IsNotRead, OrMemory};
 
 use crate::command::Command;
 use crate::limits::SOURCE_LIMIT;
+use crate::order::order_output;
 use crate::plain::plain_output;
 use crate::refusal::Refusal;
 use crate::stage::staged;
@@ -55,7 +56,7 @@ pub(crate) fn answer_of(alloc: Global, command: Command, source: &[u8]) -> Resul
         Command::Plain => plain_output(alloc, &verified, parts.image),
         Command::Regions(_) => unreachable!(),
         Command::Run(_) => unreachable!(),
-        Command::Order(_) => unreachable!(),
+        Command::Order(options) => order_output(alloc, options, &verified, parts.image),
         Command::Both(_) => unreachable!(),
         Command::Sample(_) => unreachable!(),
     }

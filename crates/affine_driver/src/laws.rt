@@ -4,6 +4,7 @@ ghost use Rattle.affine_driver.specs.Table.{IsAsWritten};
 
 use affine_grammar::texts_are_read_exactly;
 use mem_image::image_texts_are_exact;
+use order_meaning::lists_one;
 
 /// The bytes of a source decide the ending of a call that has read them, want of memory aside: no two endings have their
 /// reasons at once, and where no refusal has its reason, the output is built, and is the only one.
@@ -13,6 +14,7 @@ pub fn endings_are_exact()
 {
     texts_are_read_exactly();
     image_texts_are_exact();
+    lists_one();
 }
 
 /// The table of commands has these ranges and defaults, these commands are built, and these options of `stage` aren't; a source

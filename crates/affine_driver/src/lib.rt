@@ -3,15 +3,17 @@
 //! `affine_main` does all that the program does: `run_main` the commands that run threads, which may wait, `stage_main` all others. `specs/Headline` says what a call comes to: which ending comes when, what was read and
 //! what was written, that the bytes of the source decide, and that what `stage` writes is a text of a valid module that runs as its
 //! input does. It stands on the words of commands, the parts of a source, the parser, the rules, the printer, the first path, image
-//! texts, the direct meaning and `affine_io`.
+//! texts, the direct meaning, the machine of all orders and `affine_io`.
 #![tactic(auto)]
 
 mod answer;
+mod bytes;
 mod command;
 mod demands;
 mod ending;
 mod laws;
 mod limits;
+mod order;
 mod plain;
 mod refusal;
 mod report;

@@ -1,25 +1,12 @@
 // The report of a plan.
 ghost use Rattle.std.specs.Prelude.{◌≡◌, ◌++◌, ◌*◌, OnOk};
-ghost use Rattle.std.specs.Fmt.{decimal};
 ghost use Rattle.affine_ast.specs.Spelling.{name_text};
 ghost use Rattle.affine_driver.specs.Output.{subject_text, amount_text, directions_text, decision_text, report_line, report};
 
+use crate::bytes::{put, put_number};
 use affine_ast::Name;
 use first_path::Placement;
 use std::alloc::{AllocError, Global};
-
-fn put(out: &mut Vec<u8>, text: &[u8]) -> Result<(), AllocError>
-    ensures { OnOk result (out.new.items ≡ out.old.items ++ text.now) }
-{
-    out.extend_from_slice(text)
-}
-
-fn put_number(alloc: Global, out: &mut Vec<u8>, number: u64) -> Result<(), AllocError>
-    ensures { OnOk result (out.new.items ≡ out.old.items ++ decimal number) }
-{
-    let text = number.to_string(alloc)?;
-    put(out, text.as_bytes())
-}
 
 #[tactic(auto, unfolding(affine_ast::specs::Spelling::name_text))]
 fn put_name(out: &mut Vec<u8>, name: &Name) -> Result<(), AllocError>

@@ -33,15 +33,15 @@ pub const RUN_FILLER: Standing = Built;
 
 pub const RUN_ENGINES: Standing = Built;
 
-pub const ORDER: Standing = Unbuilt;
+pub const ORDER: Standing = Built;
 
-pub const ORDER_CAPACITY: Standing = Unbuilt;
+pub const ORDER_CAPACITY: Standing = Built;
 
-pub const ORDER_FILLER: Standing = Unbuilt;
+pub const ORDER_FILLER: Standing = Built;
 
-pub const ORDER_ENGINES: Standing = Unbuilt;
+pub const ORDER_ENGINES: Standing = Built;
 
-pub const ORDER_PICK: Standing = Unbuilt;
+pub const ORDER_PICK: Standing = Built;
 
 pub const BOTH: Standing = Unbuilt;
 

@@ -24,6 +24,8 @@ mod prompt_runs;
 #[cfg(test)]
 mod runs;
 #[cfg(test)]
+mod samples;
+#[cfg(test)]
 mod streams;
 #[cfg(test)]
 mod systems;

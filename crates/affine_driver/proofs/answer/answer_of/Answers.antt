@@ -1,7 +1,7 @@
 use Rattle.std.proofs.Common.{◌≤◌, length, sym, subst, arith}
 use Rattle.affine_grammar.specs.Spelling.{Spells}
 use Rattle.source_parts.specs.Parts.{text_part, image_part}
-use Rattle.affine_driver.specs.declared.command.Command.TheVariants.{Check, Stage, Plain}
+use Rattle.affine_driver.specs.declared.command.Command.TheVariants.{Check, Stage, Plain, Order}
 use Rattle.affine_driver.specs.Behaviour.{Makes, ComesTo}
 use Rattle.affine_driver.proofs.Refusals.{answered, comes_to, staged}
 use Rattle.affine_driver.proofs.answer.answer_of.Goals as goal
@@ -28,3 +28,10 @@ returns-in-Plain c =
     let spells : Spells (text_part c.args.source.now) input = subst (λ t. Spells t input) c.split-parts.ensures.text c.in_ok-verified.ensures.0 in
     answered _ _ _ _ (λ o h. subst (λ k. ComesTo k c.args.source.now o) (sym c.in-Plain.is) (comes_to Plain c.args.source.now input o spells c.in_ok-verified.ensures.1
     (subst (λ t. Makes Plain input t o) c.split-parts.ensures.image h))) c.plain_output.ensures
+
+pub returns-in-Order : goal.returns-in-Order
+returns-in-Order c =
+    let input = c.in_ok-verified.verified.inner in
+    let spells : Spells (text_part c.args.source.now) input = subst (λ t. Spells t input) c.split-parts.ensures.text c.in_ok-verified.ensures.0 in
+    answered _ _ _ _ (λ o h. subst (λ k. ComesTo k c.args.source.now o) (sym c.in-Order.is) (comes_to (Order c.in-Order.options) c.args.source.now input o spells c.in_ok-verified.ensures.1
+    (subst (λ t. Makes (Order c.in-Order.options) input t o) c.split-parts.ensures.image h))) c.order_output.ensures

@@ -1,7 +1,7 @@
 use Rattle.affine_driver.proofs.Endings.{Known, exact, one_output}
 use Rattle.affine_driver.proofs.laws.endings_are_exact.Goals as goal
 
-known : goal.After-image_texts_are_exact → Known
+known : goal.After-lists_one → Known
 known c = record {
   texts = record {
     one_module = c.texts_are_read_exactly.ensures.one_module;
@@ -13,6 +13,7 @@ known c = record {
     breaks = c.image_texts_are_exact.ensures.one_rule;
     both = c.image_texts_are_exact.ensures.not_both;
   };
+  lists = c.lists_one.ensures;
 }
 
 pub returns-clause-exact : goal.returns-clause-exact

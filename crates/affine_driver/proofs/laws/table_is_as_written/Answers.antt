@@ -14,6 +14,7 @@ returns c = record {
   stage = refl;
   plain = refl;
   run = refl;
+  order = refl;
   stage_depth = refl;
   stage_dma = refl;
   stage_double = refl;
