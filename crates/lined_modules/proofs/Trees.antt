@@ -61,5 +61,8 @@ made (Branch line set names first true other rest) h = of_choice line set names 
 made (Branch line set names first false other rest) h = of_condition line set names first other rest ∙ (λ i. Branch line set names (made first h.1 i) false (sym h.0 i) (made rest h.2 i))
 made (Does line p rest) h = of_plain line p rest ∙ ap (λ n. Does line p n) (made rest h)
 
+pub closed_text : (ss : List Stmt) → Closed (lined (nest ss))
+closed_text ss = closed_lined (nest ss) (closed (nest ss) (ap nest (unnested (nest ss) ss refl)))
+
 pub tree_lined : (ss : List Stmt) → nest (stmts_of (lined (nest ss))) ≡ lined (nest ss)
-tree_lined ss = made (lined (nest ss)) (closed_lined (nest ss) (closed (nest ss) (ap nest (unnested (nest ss) ss refl))))
+tree_lined ss = made (lined (nest ss)) (closed_text ss)

@@ -23,6 +23,14 @@ pub record IsStageOf (o : Options) (m q : Module) : Type 0 where
   pub is_ordered : IsNormal placed ordered
   pub is_numbered : IsNumbered ordered q
 
+-- each module has one, whatever the options
+pub record Stage (o : Options) (m : Module) : Type 0 where
+  pub module_ : Module
+  pub is : IsStageOf o m module_
+
+abbrev pub AllHaveStages : Type 0
+AllHaveStages = (o : Options) (m : Module) → Stage o m
+
 -- what such a module is: valid, the memories that fit the module fit it, and from each of them, for every filler, in the options'
 -- capacity its prompt run has the verdict of the module's direct meaning, and at the end its slow memory
 pub record RunsAsOriginal (o : Options) (m q : Module) : Type 0 where

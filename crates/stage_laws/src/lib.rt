@@ -2,7 +2,7 @@
 //! numbered names; and the law that it is valid and runs as the module.
 #![tactic(auto)]
 
-ghost use Rattle.stage_laws.specs.Law.{StageRuns, TextsStage};
+ghost use Rattle.stage_laws.specs.Law.{AllHaveStages, StageRuns, TextsStage};
 
 /// So is it for every valid module that meets V13 and has the names of a text, every option and every memory that fits.
 pub fn stage_runs()
@@ -12,4 +12,9 @@ pub fn stage_runs()
 /// So for every module that a text spells.
 pub fn texts_stage()
     ensures { TextsStage }
+{}
+
+/// Every module has one.
+pub fn all_have_stages()
+    ensures { AllHaveStages }
 {}
