@@ -4,7 +4,7 @@ use Rattle.std.specs.Prelude.{nat_lt}
 use Rattle.std.proofs.lemmas.Bool.{ltb-true, ltb-false}
 use Rattle.std.proofs.lemmas.Nat.{div-mul-add, mod-mul-add}
 use Rattle.std.proofs.lemmas.List.{length-map}
-use Rattle.std.proofs.lemmas.List.Folds.{list_any_none}
+use Rattle.std.proofs.lemmas.List.Folds.{list_any_at, list_any_none}
 use Rattle.std.proofs.lemmas.List.FromFn.{length-range_with_len, get_or-map-range_with_len}
 use Rattle.std.specs.List.{range_with_len}
 use native.Mathlib.Decide.{dec_le}
@@ -110,3 +110,26 @@ before a b h = no_overlap a b (λ e f lt below same. let k = h e f lt below in o
 
 pub behind : (a b : Transfer) → EndsBefore b a → overlap a b ≡ false
 behind a b h = no_overlap a b (λ e f lt below same. let k = h f e below lt in omega (arith, k, same))
+
+-- a shared place is one of each of the two
+shared : (a b : Transfer) (e f : ℕ) → e < a.count → f < b.count → slow_place b f ≡ slow_place a e → overlap a b ≡ true
+shared a b e f lt below same = list_any_at (meets b) (slow_places a) e 0 (omega (arith, lt, length-map (range_with_len 0 a.count) (slow_place a), length-range_with_len 0 a.count))
+    (ap (meets b) (get_or-map-range_with_len (slow_place a) 0 a.count e e 0 lt (omega arith)) ∙ meets_at b (slow_place a e) f below same)
+
+none_either : (a b : Transfer) → overlap b a ≡ false → overlap a b ≡ false
+none_either a b none = no_overlap a b (λ e f lt below same. true_false (overlap b a) (shared b a f e below lt (sym same)) none)
+  where
+    true_false : (b : Bool) → b ≡ true → b ≡ false → ⊥
+    true_false b p q = cc
+
+pub either_way : (a b : Transfer) → overlap a b ≡ overlap b a
+either_way a b = by (overlap a b) (overlap b a) refl refl
+  where
+    clash : (x : Bool) → x ≡ true → x ≡ false → ⊥
+    clash x p q = cc
+
+    by : (x y : Bool) → overlap a b ≡ x → overlap b a ≡ y → overlap a b ≡ overlap b a
+    by true true p q = p ∙ sym q
+    by false false p q = p ∙ sym q
+    by true false p q = absurd (clash (overlap a b) p (none_either a b q))
+    by false true p q = absurd (clash (overlap b a) q (none_either b a p))

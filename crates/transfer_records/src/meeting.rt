@@ -47,7 +47,21 @@ fn ends_before(one: &Transfer, other: &Transfer) -> bool
     one.slow(one.count - 1) < other.base
 }
 
-/// Whether two transfers share a slow place.
+/// The same as `overlap`, by going over the elements of the first.
+fn shares(one: &Transfer, other: &Transfer) -> bool
+    requires one { HasPlaces one.now }
+    requires other { HasPlaces other.now }
+    ensures { result ≡ overlap one.now other.now }
+{
+    for element in 0..one.count {
+        if has_place(other, one.slow(element)) {
+            return true;
+        }
+    }
+    false
+}
+
+/// Whether two transfers share a slow place. No more elements are gone over than the shorter one has.
 pub(crate) fn overlap(one: &Transfer, other: &Transfer) -> bool
     requires one { HasPlaces one.now }
     requires other { HasPlaces other.now }
@@ -59,10 +73,9 @@ pub(crate) fn overlap(one: &Transfer, other: &Transfer) -> bool
     if ends_before(other, one) {
         return false;
     }
-    for element in 0..one.count {
-        if has_place(other, one.slow(element)) {
-            return true;
-        }
+    if one.count <= other.count {
+        shares(one, other)
+    } else {
+        shares(other, one)
     }
-    false
 }

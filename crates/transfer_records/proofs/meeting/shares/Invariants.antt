@@ -2,7 +2,7 @@ use Rattle.std.proofs.Common.{◌≡◌, ◌-◌, map}
 use Rattle.std.specs.List.{list_any, range_with_len}
 use Rattle.bus_model.specs.Places.{slow_place, meets}
 use Rattle.direct_meaning.specs.Transfers.{overlap}
-use Rattle.transfer_records.proofs.meeting.overlap.Given as goal
+use Rattle.transfer_records.proofs.meeting.shares.Given as goal
 
 -- what is left of the elements tells it
 abbrev pub invariant-loop-element : goal.invariant-loop-element
