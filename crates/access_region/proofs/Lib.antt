@@ -5,11 +5,8 @@ pub mod Wholes
 pub mod Froms
 pub mod Reaches
 pub mod Lengths
-pub mod Goings
 mod Ranged
 pub mod ReadyUses
 mod Gathering
 mod AtLoops
-pub mod Covering
-pub mod Covered
 mod Multiples

@@ -1,27 +1,23 @@
 -- What regions say of the accesses in the turns of a run.
-use Rattle.std.specs.Prelude.{◌≡◌, ℕ, suc, ◌+◌, ℤ, pos, ◌+ℤ◌, ◌≤ℤ◌, ◌<ℤ◌, true, Bool, List, [], ◌∷◌, ◌++◌, length, slice_index_or, Contains, Some, Ok}
+use Rattle.std.specs.Prelude.{◌≡◌, ℕ, suc, ◌+◌, ℤ, pos, ◌+ℤ◌, ◌≤ℤ◌, ◌<ℤ◌, true, Bool, List, [], ◌∷◌, ◌++◌, length, slice_index_or, Some, Ok}
 use Rattle.constraint_set.specs.Points.{PointOf}
 use Rattle.affine_ast.specs.declared.image.Image.{Image}
 use Rattle.affine_ast.specs.declared.module.Arg.{Arg}
 use Rattle.affine_ast.specs.declared.module.Module.{Module}
 use Rattle.affine_ast.specs.declared.name.Name.{Name}
-use Rattle.affine_ast.specs.declared.types.Access.{Access}
 use Rattle.affine_ast.specs.declared.types.Bound.{Bound}
-use Rattle.affine_ast.specs.declared.types.MemrefType.{MemrefType}
 use Rattle.affine_ast.specs.Names.{same_name}
 use Rattle.affine_ast.specs.Nest.{Nest, Nothing, Loop, Does, Load, Store, nest}
 use Rattle.affine_ast.specs.Validity.{IsValid}
 use Rattle.direct_meaning.specs.Static.{Env, results_of}
-use Rattle.direct_meaning.specs.Actions.{action_of, actions}
 use Rattle.direct_meaning.specs.Memory.{Fits, start_env}
 use Rattle.nest_domain.specs.Ways.{Header, Use, at_path}
 use Rattle.nest_domain.specs.Domains.{Known, symbol_count, place, system_of}
 use Rattle.nest_domain.specs.Ways.{loop_count}
 use Rattle.nest_domain.specs.Visits.{Visits, Along}
-use Rattle.nest_domain.specs.Boxes.{Dimension, begins_at, AllWithin, AllIn, AreOver}
+use Rattle.nest_domain.specs.Boxes.{Dimension, begins_at, AllWithin, AreOver}
 use Rattle.access_region.specs.Regions.{uses_at}
 use Rattle.access_region.specs.Places.{region_of}
-use Rattle.access_region.specs.Covers.{covers}
 
 -- each subscript, from that number on, that lies within its size lies in the region's extent from its place
 abbrev pub AllInside : ℕ → List Dimension → List ℕ → List ℤ → List ℤ → Type 0
@@ -56,21 +52,3 @@ RegionsHold = (m : Module) → IsValid m → (memory : Image) → Fits m memory 
 -- a region has a coefficient for each outer variable
 abbrev pub RegionsAreOver : Type 0
 RegionsAreOver = (args : List Arg) (way : List Header) (us : List Use) (sizes : List ℕ) (ds : List Dimension) (dma : Bool) → region_of args way us sizes dma ≡ Ok ds → AreOver (symbol_count args + loop_count way) ds
-
--- ---- covers
--- in a visit of a list of statements, a store to a memref with these subscripts is come to
-pub record IsStored (name : Name) (xs : List ℤ) (n : Nest) (f : Env) : Type 0 where
-  pub value : Name
-  pub at : Access
-  pub ty : MemrefType
-  pub env : Env
-  pub subscripts : results_of env at ≡ xs
-  pub found : Contains (actions n f) (action_of (Store value name at ty) env)
-
--- where a region is covered, each of its elements is stored to in each visit of the loop
-abbrev pub CoveredIsSwept : Type 0
-CoveredIsSwept = (m : Module) → IsValid m → (memory : Image) → Fits m memory → (steps : List (ℕ × Bool)) (way : List Header) (line : ℕ) (v : Name) (l u : Bound) (s : ℤ) (body rest : Nest)
-    → at_path (nest m.body) steps ≡ Some (record { way = way; here = Loop line v l u s body rest })
-    → (name : Name) (sizes : List ℕ) (ds : List Dimension) → covers m.args way (uses_at name way v l u s body) (symbol_count m.args + loop_count way) ds ≡ true
-    → AreOver (symbol_count m.args + loop_count way) ds → (turns : List ℤ) (f : Env) → Visits way (start_env m.args memory.symbols) turns f
-    → (xs : List ℤ) → AllIn ds sizes (memory.symbols ++ turns) xs → IsStored name xs (Loop line v l u s body Nothing) f

@@ -7,5 +7,4 @@ pub mod Widening
 pub mod Widened
 pub mod Places
 pub mod Finding
-pub mod Covers
 pub mod Laws

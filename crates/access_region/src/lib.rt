@@ -1,7 +1,7 @@
 //! The region of a memref at a loop: a box, at each turn of the outer loops, that holds the accesses of the memref in the loop.
 #![tactic(auto)]
 
-ghost use Rattle.access_region.specs.Laws.{RegionsLieWithin, RegionsHold, RegionsAreOver, CoveredIsSwept};
+ghost use Rattle.access_region.specs.Laws.{RegionsLieWithin, RegionsHold, RegionsAreOver};
 
 mod at;
 mod candidate;
@@ -35,9 +35,4 @@ pub fn regions_hold()
 /// A region has a coefficient for each outer variable.
 pub fn regions_are_over()
     ensures { RegionsAreOver }
-{}
-
-/// Where a region is covered, each of its elements is stored to in each visit of the loop, and by one store, so none is loaded.
-pub fn covered_is_swept()
-    ensures { CoveredIsSwept }
 {}

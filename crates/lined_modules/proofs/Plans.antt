@@ -12,7 +12,7 @@ use Rattle.nest_domain.specs.Ways.{Use, Affine, Other, loop_count}
 use Rattle.nest_domain.specs.Domains.{symbol_count, symbol_names}
 use Rattle.access_region.specs.Faults.{NoRegion}
 use Rattle.access_region.specs.Places.{region_of}
-use Rattle.access_region.specs.Covers.{covers}
+use Rattle.box_covers.specs.Covers.{covers}
 use Rattle.placement_texts.specs.Fold.{Step, staged_all}
 use Rattle.placement_texts.specs.Spots as spots
 use Rattle.placement_texts.specs.Spots.{Spot, Here, Behind, Inside}

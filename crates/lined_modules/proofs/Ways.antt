@@ -9,13 +9,15 @@ use Rattle.affine_ast.specs.declared.types.Access.{Access}
 use Rattle.affine_ast.specs.Names.{same_name}
 use Rattle.affine_ast.specs.Nest.{Plain, Nest, Nothing, Loop, Branch, Does, Value, Load, Store, RawLoad, RawStore, Constant, Binary, Cast, Alloc, Dealloc, Start, Wait, Return}
 use Rattle.nest_domain.specs.Ways.{Header, Round, Given, Except, Behind, Past, Use, Affine, Other, loop_count, loop_names, bound_names, used_before, used, if_named, use_of, uses}
-use Rattle.nest_domain.specs.Domains.{Known, along_one, along, symbol_count, symbol_names, with_arguments, nothing_known, place, map_forms, with_subscripts, access}
+use Rattle.nest_domain.specs.Domains.{Going, Known, along_one, along, symbol_count, symbol_names, with_arguments, nothing_known, place, map_forms, with_subscripts, access}
 use Rattle.nest_domain.specs.Boxes.{Dimension}
 use Rattle.access_region.specs.Faults as faults
 use Rattle.access_region.specs.Faults.{unplaced, by_form}
 use Rattle.access_region.specs.Regions.{has_other, reaching_of, all_reaching, reaching, outside_of, outside_at}
 use Rattle.access_region.specs.Places.{region_from, region_of}
-use Rattle.access_region.specs.Covers.{unconditional, covers_by, covers}
+use Rattle.box_covers.specs.Traced as traces
+use Rattle.box_covers.specs.Traced.{Traced, nothing_traced, behind_one, traced, with_going, goings, swept}
+use Rattle.box_covers.specs.Covers.{unconditional, covers_from, traced_at, covers}
 use Rattle.plan_laws.specs.Sites.{lined}
 
 -- ---- a way with lines
@@ -187,12 +189,44 @@ unconditional_with (Except set names first ∷ hs) = refl
 unconditional_with (Behind p ∷ hs) = unconditional_with hs
 unconditional_with (Past n ∷ hs) = unconditional_with hs
 
+behind_with : (h : Header) (k : Traced) → behind_one (header h) k ≡ behind_one h k
+behind_with (Round v l u s) k = refl
+behind_with (Given set names) k = refl
+behind_with (Except set names first) k = refl
+behind_with (Behind p) k = refl
+behind_with (Past n) k = refl
+
+traced_with : (hs : List Header) (k : Traced) → traced (way hs) k ≡ traced hs k
+traced_with [] k = refl
+traced_with (h ∷ hs) k = ap (traced (way hs)) (behind_with h k) ∙ traced_with hs (behind_one h k)
+
+going_with : (h : Header) (k : Traced) (rest : Result (List Going) LinearFault) → with_going (header h) k rest ≡ with_going h k rest
+going_with (Round v l u s) k rest = refl
+going_with (Given set names) k rest = refl
+going_with (Except set names first) k rest = refl
+going_with (Behind p) k rest = refl
+going_with (Past n) k rest = refl
+
+goings_with : (hs : List Header) (k : Traced) → goings (way hs) k ≡ goings hs k
+goings_with [] k = refl
+goings_with (h ∷ hs) k = (λ i. with_going (header h) k (goings (way hs) (behind_with h k i))) ∙ going_with h k (goings (way hs) (behind_one h k)) ∙ ap (with_going h k) (goings_with hs (behind_one h k))
+
+swept_with : (hs : List Header) (at : Access) (k : Traced) → swept (way hs) at k ≡ swept hs at k
+swept_with hs at k = λ i. goings_with hs k i >>= (λ gs. traces.with_subscripts gs (map_forms (traced_with hs k i).forms (traced_with hs k i).next at []))
+
+traced_at_with : (args : List Arg) (hs there : List Header) → traced_at args (way hs) (loop_count (way there)) ≡ traced_at args hs (loop_count there)
+traced_at_with args hs there =
+    (λ i. traced (way hs) (traces.with_arguments args (nothing_traced (symbol_count args + way_loops there i))))
+    ∙ traced_with hs (traces.with_arguments args (nothing_traced (symbol_count args + loop_count there)))
+
 pub covers_with : (args : List Arg) (hs : List Header) (us : List Use) (outer : ℕ) (ds : List Dimension) → covers args (way hs) (uses_with us) outer ds ≡ covers args hs us outer ds
 unfolding covers
 covers_with args hs [] outer ds = refl
 covers_with args hs (Other ∷ us) outer ds = refl
 covers_with args hs (Affine there false at ∷ us) outer ds = refl
 covers_with args hs (Affine there true at ∷ []) outer ds =
-    (λ i. unconditional (drop (way_length hs i) (way there)) && covers_by outer (loop_count (way hs)) ds (access args (way there) at))
-    ∙ (λ i. (ap unconditional (drop_way (length hs) there) ∙ unconditional_with (drop (length hs) there)) i && covers_by outer (way_loops hs i) ds (way_access args there at i))
+    let inner = drop (length hs) there in
+    let is : drop (length (way hs)) (way there) ≡ way inner = (λ i. drop (way_length hs i) (way there)) ∙ drop_way (length hs) there in
+    (λ i. unconditional (is i) && covers_from outer ds (swept (is i) at (traced_at_with args hs there i)))
+    ∙ (λ i. unconditional_with inner i && covers_from outer ds (swept_with inner at (traced_at args hs (loop_count there)) i))
 covers_with args hs (Affine there true at ∷ (u ∷ us)) outer ds = refl

@@ -24,9 +24,9 @@ use Rattle.nest_domain.specs.Domains.{symbol_count}
 use Rattle.nest_domain.specs.Boxes as region
 use Rattle.nest_domain.specs.Boxes.{begins_at, AllWithin, AllIn}
 use Rattle.nest_domain.specs.Visits.{Visits}
-use Rattle.access_region.specs.Covers.{covers}
+use Rattle.box_covers.specs.Covers.{covers}
+use Rattle.box_covers.proofs.Covered.{swept_by_one}
 use Rattle.access_region.specs.Regions.{uses_at}
-use Rattle.access_region.proofs.Covered.{swept_by_one}
 use Rattle.access_region.proofs.Lengths.{regions_are_over}
 use Rattle.placement_texts.specs.Boxes.{sizes_of, InBox}
 use Rattle.placement_texts.specs.Regions.{place_number, spans_at, ReachesBox}

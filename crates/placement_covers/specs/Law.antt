@@ -16,7 +16,7 @@ use Rattle.direct_meaning.specs.Static.{Env}
 use Rattle.nest_domain.specs.Ways.{loop_count}
 use Rattle.nest_domain.specs.Domains.{symbol_count}
 use Rattle.nest_domain.specs.Boxes as region
-use Rattle.access_region.specs.Covers.{covers}
+use Rattle.box_covers.specs.Covers.{covers}
 use Rattle.placement_texts.specs.Each.{Each}
 use Rattle.placement_texts.specs.Labels.{Numbers}
 use Rattle.placement_texts.specs.Law.{Suits, Alike}

@@ -26,7 +26,7 @@ use Rattle.nest_domain.specs.Boxes.{Dimension}
 use Rattle.nest_domain.specs.Domains.{along, place, row_at, system_of, access}
 use Rattle.nest_domain.specs.Ways.{used, uses}
 use Rattle.access_region.specs.Faults.{unplaced}
-use Rattle.access_region.specs.Covers.{covers}
+use Rattle.box_covers.specs.Covers.{covers}
 use Rattle.access_region.specs.Places.{region_of}
 use Rattle.access_region.specs.Widening.{shape, widened}
 use Rattle.std.specs.Prelude.{None, nat_lt, if◌then◌else◌}

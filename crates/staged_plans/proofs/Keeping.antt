@@ -11,7 +11,7 @@ use Rattle.affine_ast.specs.Nest.{Plain, Nest, Nothing, Loop, Branch, Does, Valu
 use Rattle.nest_domain.specs.Ways as ways
 use Rattle.nest_domain.specs.Ways.{Header, Use, Affine, if_named, use_of, uses, loop_count}
 use Rattle.nest_domain.specs.Boxes.{Dimension}
-use Rattle.access_region.specs.Covers.{covers}
+use Rattle.box_covers.specs.Covers.{covers}
 use Rattle.access_region.specs.Faults.{NoRegion, unplaced, ◌>>=◌}
 use Rattle.access_region.specs.Regions.{has_other, all_reaching, outside_at}
 use Rattle.access_region.specs.Places.{region_from, region_of}

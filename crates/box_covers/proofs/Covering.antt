@@ -20,7 +20,7 @@ use Rattle.affine_expr.proofs.Meaning.{padded_worth}
 use Rattle.nest_domain.proofs.Rowed.{IsMinus, minus_gives}
 use Rattle.nest_domain.proofs.Sweeps.{Sweeps, Passes, Part, Parts}
 use Rattle.nest_domain.specs.Boxes.{Dimension, place_at, begins_at, AllIn, AreOver}
-use Rattle.access_region.specs.Covers.{is_positive_gap, ends_at, same_form, place_form, only_form, sweeps_by, sweeps, passes_by, passes, swept_by, all_swept, others_pass, has_number}
+use Rattle.box_covers.specs.Covers.{is_positive_gap, ends_at, same_form, place_form, only_form, sweeps_by, sweeps, passes_by, passes, swept_by, all_swept, others_pass, has_number}
 
 whole : (n : ℕ) (f : Form) (p : List ℤ) → worth (padded n f) p ≡ dot (padded n f).coefs p +ℤ f.constant
 unfolding padded

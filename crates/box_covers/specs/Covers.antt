@@ -1,15 +1,16 @@
--- Loops that make one store sweep the whole region.
-use Rattle.std.specs.Prelude.{ℕ, zero, suc, ◌-◌, ℤ, pos, Bool, true, false, not, ◌&&◌, ◌||◌, if◌then◌else◌, nat_eq, int_lt, List, [], ◌∷◌, length, drop, slice_get, Option, Some, None, Result, Ok, Err}
+-- Loops that make one store sweep a whole box.
+use Rattle.std.specs.Prelude.{ℕ, zero, suc, ◌+◌, ◌-◌, pos, Bool, true, false, not, ◌&&◌, ◌||◌, if◌then◌else◌, nat_eq, int_lt, List, [], ◌∷◌, length, drop, slice_get, Option, Some, None, Result, Ok, Err}
 use Rattle.std.specs.Ordering.{int_eq}
 use Rattle.constraint_set.specs.Tidy.{all_zero, same_coefs}
 use Rattle.affine_expr.specs.declared.linear.LinearFault.{LinearFault}
 use Rattle.affine_expr.specs.Forms.{Form}
-use Rattle.affine_expr.specs.Linear.{variable_form}
+use Rattle.affine_expr.specs.Linear.{variable_form, padded, minus}
 use Rattle.affine_ast.specs.declared.module.Arg.{Arg}
+use Rattle.affine_ast.specs.declared.types.Access.{Access}
 use Rattle.nest_domain.specs.Ways.{Header, Round, Given, Except, Behind, Past, Use, Affine, loop_count}
-use Rattle.affine_expr.specs.Linear.{padded, minus}
-use Rattle.nest_domain.specs.Domains.{Going, Accessed, access, shifted}
+use Rattle.nest_domain.specs.Domains.{Going, shifted, symbol_count}
 use Rattle.nest_domain.specs.Boxes.{Dimension}
+use Rattle.box_covers.specs.Traced.{Traced, nothing_traced, with_arguments, traced, Swept, swept}
 
 -- a way within no condition
 abbrev pub unconditional : List Header → Bool
@@ -20,15 +21,7 @@ unconditional (Except set names first ∷ hs) = false
 unconditional (Behind p ∷ hs) = unconditional hs
 unconditional (Past n ∷ hs) = unconditional hs
 
--- what is found, and not where a form leaves 128 bits
-abbrev pub found : Result Bool LinearFault → Bool
-found (Ok b) = b
-found (Err e) = false
-
--- whether two forms are the same
-abbrev pub is_flat_as : ℤ → Form → Bool
-is_flat_as z d = all_zero d.coefs && int_eq d.constant z
-
+-- whether two forms are the same, where a missing coefficient counts as 0
 abbrev pub same_form : Form → Form → Bool
 same_form f g = same_coefs (padded (length g.coefs) f).coefs (padded (length f.coefs) g).coefs && int_eq f.constant g.constant
 
@@ -118,15 +111,21 @@ abbrev pub sweep_all : ℕ → List Going → List Dimension → Option (List �
 sweep_all first gs ds (Some js) = are_distinct js && (all_swept first gs ds js && others_pass first gs js)
 sweep_all first gs ds None = false
 
--- of a store's inner loops, those behind so many outer ones
-abbrev pub covers_from : ℕ → ℕ → List Dimension → Accessed → Bool
-covers_from outer outside ds a = let gs = drop outside a.known.goings in sweep_all outer gs ds (variables_of (length gs) outer a.forms)
+-- the loops round a store, from a loop behind so many variables on, and its subscripts. A form that leaves 128 bits is no cover
+abbrev pub covers_from : ℕ → List Dimension → Result Swept LinearFault → Bool
+covers_from outer ds (Ok s) = sweep_all outer s.goings ds (variables_of (length s.goings) outer s.forms)
+covers_from outer ds (Err e) = false
 
-abbrev pub covers_by : ℕ → ℕ → List Dimension → Result Accessed LinearFault → Bool
-covers_by outer outside ds (Ok a) = covers_from outer outside ds a
-covers_by outer outside ds (Err e) = false
+-- what is known at the end of a way, where so many loops stand round a store
+abbrev pub traced_at : List Arg → List Header → ℕ → Traced
+traced_at args way loops = traced way (with_arguments args (nothing_traced (symbol_count args + loops)))
 
--- the memref is accessed in the loop by one `affine.store` alone, under no condition within the loop, which sweeps the region
+-- a store at the end of a way that goes on from the loop's, under no condition within the loop, sweeps the box
+abbrev pub store_covers : List Arg → List Header → List Header → Access → ℕ → List Dimension → Bool
+store_covers args way there at outer ds =
+    unconditional (drop (length way) there) && covers_from outer ds (swept (drop (length way) there) at (traced_at args way (loop_count there)))
+
+-- the memref is accessed in the loop by one `affine.store` alone, which covers the box
 unfoldable pub covers : List Arg → List Header → List Use → ℕ → List Dimension → Bool
-covers args way (Affine there true at ∷ []) outer ds = unconditional (drop (length way) there) && covers_by outer (loop_count way) ds (access args there at)
+covers args way (Affine there true at ∷ []) outer ds = store_covers args way there at outer ds
 covers args way us outer ds = false

@@ -1,13 +1,13 @@
--- Where a region is covered each of its elements is stored to.
-use Rattle.std.proofs.Common.{◌≡◌, ℕ, zero, suc, ◌+◌, ◌-◌, ◌<◌, ◌≤◌, Bool, true, false, cond, ◌&&◌, List, [], ◌∷◌, ◌++◌, map, take, drop, length, get_or, Option, Some, None, Result, Ok, Err, ℤ, pos, refl, sym, ◌∙◌, ap, subst, arith, append_assoc, append-nil, length-append}
-use Rattle.std.specs.Prelude.{not, nat_eq, ◌||◌, Contains}
+-- Where a box is covered each of its elements is stored to.
+use Rattle.std.proofs.Common.{◌≡◌, ℕ, zero, suc, ◌+◌, ◌-◌, ◌<◌, ◌≤◌, Bool, true, false, cond, ◌&&◌, List, [], ◌∷◌, ◌++◌, map, drop, length, get_or, Option, Some, None, Result, Ok, Err, ℤ, pos, refl, sym, ◌∙◌, ap, subst, arith, append_assoc, append-nil, length-append}
+use Rattle.std.specs.Prelude.{not, nat_eq, ◌||◌}
 use Rattle.std.proofs.lemmas.Bool.{and_parts, eqb-true, eq-eqb}
 use Rattle.constraint_set.specs.Lists.{Each}
-use Rattle.constraint_set.proofs.Steps.{Each-append, Each-first, Each-weaken}
+use Rattle.constraint_set.proofs.Steps.{Each-append, Each-weaken}
 use Rattle.affine_expr.specs.declared.linear.LinearFault.{LinearFault}
-use Rattle.affine_expr.specs.Forms.{Form, LocalForm}
+use Rattle.affine_expr.specs.Forms.{Form, with_locals}
 use Rattle.affine_expr.specs.Linear.{◌>>=◌, variable_form}
-use Rattle.affine_expr.proofs.FormValues.{Gives, worth, variable_worth}
+use Rattle.affine_expr.proofs.FormValues.{Gives, variable_worth}
 use Rattle.affine_expr.proofs.Meaning.{Is, Are}
 use Rattle.affine_ast.specs.declared.image.Cells.{Cells}
 use Rattle.affine_ast.specs.declared.image.Image.{Image}
@@ -19,30 +19,27 @@ use Rattle.affine_ast.specs.declared.types.Bound.{Bound}
 use Rattle.affine_ast.specs.Nest.{Plain, Nest, Nothing, Loop, Branch, Does, Value, Load, Store, RawLoad, RawStore, Constant, Binary, Cast, Alloc, Dealloc, Start, Wait, Return, nest}
 use Rattle.affine_ast.specs.Validity.{IsValid}
 use Rattle.direct_meaning.specs.Static.{Env, knows, lower_of, results_of}
-use Rattle.direct_meaning.specs.Actions.{actions, action_of, after_plain, behind}
+use Rattle.direct_meaning.specs.Actions.{after_plain, behind}
 use Rattle.direct_meaning.specs.Memory.{FitsArgs, Fits, start_env}
 use Rattle.direct_meaning.specs.Pure.{AffineNest}
 use Rattle.valid_laws.proofs.Passing.{valid_affine}
-use Rattle.nest_domain.specs.Ways.{Header, Round, Given, Except, Behind, Past, Use, Affine, Other, if_named, use_of, uses, used, loop_count, at_path}
-use Rattle.nest_domain.specs.Forms.{Formed, all_floor_rows}
-use Rattle.nest_domain.specs.Domains.{Going, Known, Accessed, map_forms, with_divisions, with_subscripts, along, symbol_count, with_arguments, nothing_known, place, access}
+use Rattle.nest_domain.specs.Ways.{Header, Round, Given, Except, Behind, Past, Use, Affine, Other, if_named, use_of, uses, loop_count, at_path}
+use Rattle.nest_domain.specs.Forms.{Formed}
+use Rattle.nest_domain.specs.Domains.{Going, map_forms, symbol_count}
 use Rattle.nest_domain.specs.Visits.{Visits}
 use Rattle.nest_domain.specs.Boxes.{Dimension, AllIn, AreOver}
-use Rattle.nest_domain.proofs.Walks.{AffineWay, Holds}
-use Rattle.nest_domain.proofs.Places.{AccessArrived, access_arrives, fits_length, visits_length}
-use Rattle.nest_domain.proofs.Alongs.{visits_append, affine_append, path_affine}
-use Rattle.nest_domain.proofs.Visiting.{along_append, ArrivedTo, loop_arrives}
-use Rattle.nest_domain.proofs.Sweeps.{wanted, chosen, arrived, Unconditional, Part, Parts, Sweepable, sweeps}
-use Rattle.nest_domain.proofs.Among.{StoreIn, FoundIn, stores_found}
-use Rattle.access_region.specs.Covers.{unconditional, same_form, is_variable, variable_from, has_number, with_variable, variables_of, are_distinct, swept_by, all_swept, others_pass, sweep_all, covers_from, covers_by, covers}
-use Rattle.access_region.specs.Regions.{uses_at}
-use Rattle.access_region.specs.Laws.{IsStored, CoveredIsSwept}
-use Rattle.access_region.proofs.Covering.{same_worth, want_of, wants, parts_from}
-use Rattle.access_region.proofs.Goings.{Counted, along_counted, way_counted}
-
-on : {A B : Type 0} (w : Result A LinearFault) (f : A → Result B LinearFault) (Q : B → Type 0) → ((x : A) → w ≡ Ok x → Gives (f x) Q) → Gives (w >>= f) Q
-on (Ok x) f Q h = h x refl
-on (Err e) f Q h = tt
+use Rattle.nest_domain.proofs.Walks.{AffineWay, map_gives}
+use Rattle.nest_domain.proofs.Places.{fits_length, visits_length}
+use Rattle.nest_domain.proofs.Alongs.{path_affine}
+use Rattle.nest_domain.proofs.Rowed.{AllGood, grows}
+use Rattle.nest_domain.proofs.Sweeps.{wanted, chosen, arrived, Unconditional, Parts}
+use Rattle.nest_domain.proofs.Among.{FoundIn, stores_found}
+use Rattle.box_covers.specs.Traced.{Traced, Swept, traced, goings, with_subscripts, swept}
+use Rattle.box_covers.specs.Covers.{unconditional, is_variable, variable_from, has_number, with_variable, variables_of, are_distinct, swept_by, all_swept, others_pass, sweep_all, covers_from, traced_at, covers}
+use Rattle.box_covers.specs.Law.{loop_uses, CoveredIsSwept}
+use Rattle.box_covers.proofs.Covering.{same_worth, want_of, wants, parts_from}
+use Rattle.box_covers.proofs.Tracing.{TracedIn, along_in, arrives_in}
+use Rattle.box_covers.proofs.Turning.{goings_long, turns_are_there}
 
 answer : {A : Type 0} (w : Result A LinearFault) (x : A) (P : A → Type 0) → w ≡ Ok x → Gives w P → P x
 answer w x P e h = subst (λ v. Gives v P) e h
@@ -265,136 +262,141 @@ get_behind os us more i h = skip os ∙ front us i h
     skip [] = ap (λ m. get_or (us ++ more) m (pos 0)) (zeroth i)
     skip (o ∷ os) = ap (λ m. get_or (o ∷ (os ++ (us ++ more))) m (pos 0)) (further (length os) i) ∙ skip os
 
--- ---- where the region is come to
--- the rows of an access, by the loop on its way
-pub record Parted (args : List Arg) (way inner : List Header) (at : Access) (a : Accessed) : Type 0 where
-  pub k : Known
-  pub g : Known
-  pub outside : (with_arguments args (nothing_known (symbol_count args + loop_count (way ++ inner))) >>= along way (used inner at.operands)) ≡ Ok k
-  pub inside : along inner at.operands k ≡ Ok g
-  pub goings : a.known.goings ≡ g.goings
-
-parted : (args : List Arg) (way inner : List Header) (at : Access) → Gives (access args (way ++ inner) at) (Parted args way inner at)
-unfolding access place
-parted args way inner at =
-    by (with_arguments args (nothing_known (symbol_count args + loop_count (way ++ inner)))) refl
-  where
-    Q : Accessed → Type 0
-    Q = Parted args way inner at
-
-    rest : Known → Result Accessed LinearFault
-    rest k = map_forms k.forms k.next at [] >>= (λ formed. with_subscripts formed k)
-
-    divisions : (ls : List LocalForm) (g : Known) → Gives (with_divisions ls g) (λ r. r.goings ≡ g.goings)
-    divisions ls g = on (all_floor_rows ls) _ (λ r. r.goings ≡ g.goings) (λ rows e. refl)
-
-    ended : (k g : Known) → (with_arguments args (nothing_known (symbol_count args + loop_count (way ++ inner))) >>= along way (used inner at.operands)) ≡ Ok k → along inner at.operands k ≡ Ok g → Gives (map_forms g.forms g.next at [] >>= (λ formed. with_subscripts formed g)) (Parted args way inner at)
-    ended k g o i = on (map_forms g.forms g.next at []) (λ formed. with_subscripts formed g) (Parted args way inner at) (λ formed e.
-        on (with_divisions formed.locals g) _ (Parted args way inner at) (λ r d. record { k = k; g = g; outside = o; inside = i; goings = answer (with_divisions formed.locals g) r (λ r. r.goings ≡ g.goings) d (divisions formed.locals g) }))
-
-    by : (w : Result Known LinearFault) → with_arguments args (nothing_known (symbol_count args + loop_count (way ++ inner))) ≡ w → Gives ((w >>= along (way ++ inner) at.operands) >>= (λ k. map_forms k.forms k.next at [] >>= (λ formed. with_subscripts formed k))) (Parted args way inner at)
-    by (Err e) h = tt
-    by (Ok k0) h = subst (λ w. Gives (w >>= (λ k. map_forms k.forms k.next at [] >>= (λ formed. with_subscripts formed k))) (Parted args way inner at)) (sym (along_append way inner at.operands k0)) (more (along way (used inner at.operands) k0) refl)
-      where
-        more : (w : Result Known LinearFault) → along way (used inner at.operands) k0 ≡ w → Gives ((w >>= along inner at.operands) >>= (λ k. map_forms k.forms k.next at [] >>= (λ formed. with_subscripts formed k))) (Parted args way inner at)
-        more (Err e) o = tt
-        more (Ok k) o = last (along inner at.operands k) refl
-          where
-            last : (w : Result Known LinearFault) → along inner at.operands k ≡ w → Gives (w >>= (λ k. map_forms k.forms k.next at [] >>= (λ formed. with_subscripts formed k))) (Parted args way inner at)
-            last (Err e) i = tt
-            last (Ok g) i = ended k g (ap (λ w. w >>= along way (used inner at.operands)) h ∙ o) i
-
+-- ---- where the box is come to
 -- turns of a way from a visit in which the subscripts are these
-pub record Swept (inner : List Header) (at : Access) (xs : List ℤ) (f : Env) : Type 0 where
+pub record Reached (inner : List Header) (at : Access) (xs : List ℤ) (f : Env) : Type 0 where
   pub turns : List ℤ
   pub env : Env
   pub visits : Visits inner f turns env
   pub subscripts : results_of env at ≡ xs
 
-module _ (args : List Arg) (cells : List Cells) (zs : List ℤ) (fits : FitsArgs args cells zs) (way : List Header) (affine : AffineWay way) (ts : List ℤ) (f : Env) (visits : Visits way (start_env args zs) ts f) where
-  swept : (inner : List Header) (at : Access) (a : Accessed) → access args (way ++ inner) at ≡ Ok a → AffineWay inner → Unconditional inner
-      → (ds : List Dimension) (sizes : List ℕ) → covers_from (symbol_count args + loop_count way) (loop_count way) ds a ≡ true → AreOver (symbol_count args + loop_count way) ds → (xs : List ℤ) → AllIn ds sizes (zs ++ ts) xs → Swept inner at xs f
-  swept inner at a is aff uncond ds sizes c over xs within =
-      let p = answer (access args (way ++ inner) at) a (Parted args way inner at) is (parted args way inner at) in
-      let s = answer (along inner at.operands p.k) p.g (Sweepable (zs ++ ts) inner p.k) p.inside (sweeps (zs ++ ts) inner at.operands p.k aff uncond) in
-      let count = answer _ p.k (Counted (loop_count way)) p.outside (way_counted args (symbol_count args + loop_count (way ++ inner)) way (used inner at.operands)) in
-      let gs_is : drop (loop_count way) a.known.goings ≡ s.gs = ap (drop (loop_count way)) (p.goings ∙ s.grown) ∙ ap (λ m. drop m (p.k.goings ++ s.gs)) (sym count) ∙ drop_front p.k.goings s.gs in
-      by (variables_of (length s.gs) (symbol_count args + loop_count way) a.forms) p s refl (subst (λ gs. sweep_all (symbol_count args + loop_count way) gs ds (variables_of (length gs) (symbol_count args + loop_count way) a.forms) ≡ true) gs_is c)
+-- the loops and the subscripts of a store, each found
+record Found (inner : List Header) (at : Access) (k : Traced) (s : Swept) : Type 0 where
+  formed : Formed
+  loops : goings inner k ≡ Ok s.goings
+  subscripts : map_forms (traced inner k).forms (traced inner k).next at [] ≡ Ok formed
+  forms : formed.forms ≡ s.forms
+
+found_of : (inner : List Header) (at : Access) (k : Traced) (s : Swept) → swept inner at k ≡ Ok s → Found inner at k s
+found_of inner at k s h = by (goings inner k) refl h
+  where
+    with_forms : (gs : List Going) → goings inner k ≡ Ok gs → (w : Result Formed LinearFault) → map_forms (traced inner k).forms (traced inner k).next at [] ≡ w → with_subscripts gs w ≡ Ok s → Found inner at k s
+    with_forms gs a (Err e) b h = absurd (let z : ⊥ = cc in z)
+    with_forms gs a (Ok formed) b h =
+        let e : record { goings = gs; forms = formed.forms } ≡ s = cc in
+        record { formed = formed; loops = a ∙ ap (λ t. Ok t.goings) e; subscripts = b; forms = ap (λ t. t.forms) e }
+
+    by : (w : Result (List Going) LinearFault) → goings inner k ≡ w → (w >>= (λ gs. with_subscripts gs (map_forms (traced inner k).forms (traced inner k).next at []))) ≡ Ok s → Found inner at k s
+    by (Err e) a h = absurd (let z : ⊥ = cc in z)
+    by (Ok gs) a h = with_forms gs a (map_forms (traced inner k).forms (traced inner k).next at []) refl h
+
+-- there are as many loops as on the way
+pub swept_count : (inner : List Header) (at : Access) (k : Traced) (s : Swept) → swept inner at k ≡ Ok s → length s.goings ≡ loop_count inner
+swept_count inner at k s h = goings_long inner k s.goings (found_of inner at k s h).loops
+
+loops_append : (hs ks : List Header) → loop_count (hs ++ ks) ≡ loop_count hs + loop_count ks
+loops_append [] ks = sym (none (loop_count ks))
+  where
+    none : (n : ℕ) → 0 + n ≡ n
+    none n = omega arith
+loops_append (Round v l u s ∷ hs) ks = ap suc (loops_append hs ks) ∙ further (loop_count hs) (loop_count ks)
+  where
+    further : (n m : ℕ) → suc (n + m) ≡ suc n + m
+    further n m = omega arith
+loops_append (Given set names ∷ hs) ks = loops_append hs ks
+loops_append (Except set names first ∷ hs) ks = loops_append hs ks
+loops_append (Behind p ∷ hs) ks = loops_append hs ks
+loops_append (Past n ∷ hs) ks = loops_append hs ks
+
+module _ (args : List Arg) (cells : List Cells) (zs : List ℤ) (fits : FitsArgs args cells zs) (way : List Header) (ts : List ℤ) (f : Env) (visits : Visits way (start_env args zs) ts f) where
+  abbrev outer : ℕ
+  outer = symbol_count args + loop_count way
+
+  long : length (zs ++ ts) ≡ symbol_count args + loop_count way
+  long = omega (arith, length-append zs ts, fits_length args cells zs fits, visits_length way (start_env args zs) ts f visits)
+
+  plus_none : (m : ℕ) → m + 0 ≡ m
+  plus_none m = omega arith
+
+  nested : (us more : List ℤ) → (zs ++ (ts ++ us)) ++ more ≡ (zs ++ ts) ++ (us ++ more)
+  nested us more = ap (λ x. x ++ more) (sym (append_assoc zs ts us)) ∙ append_assoc (zs ++ ts) us more
+
+  value_at : (inner : List Header) (xs : List ℤ) (j : ℕ) (x : ℤ) (more : List ℤ) (js : List ℕ) (n0 : ℕ) (ws : List (Option ℤ)) (us : List ℤ) → ws ≡ wants outer n0 js xs → us ≡ chosen inner ws f → n0 ≡ loop_count inner → want_of j js xs ≡ Some x → (outer ≤ j) × (j < outer + n0)
+      → get_or ((zs ++ (ts ++ us)) ++ more) j (pos 0) ≡ x
+  value_at inner xs j x more js n0 ws us we ue loops w r =
+      let low = r.0 in
+      let high = r.1 in
+      let size : length us ≡ loop_count inner = ap length ue ∙ chosen_long inner ws f in
+      let there : j ≡ length (zs ++ ts) + (j - outer) = omega (arith, low, long) in
+      ap (λ q. get_or q j (pos 0)) (nested us more)
+      ∙ ap (λ m. get_or ((zs ++ ts) ++ (us ++ more)) m (pos 0)) there
+      ∙ get_behind (zs ++ ts) us more (j - outer) (omega (arith, low, high, size, loops))
+      ∙ ap (λ q. get_or q (j - outer) (pos 0)) ue
+      ∙ chosen_at inner ws f (j - outer) x (omega (arith, low, high, loops)) (ap (λ q. get_or q (j - outer) None) we ∙ wants_at outer n0 js xs (j - outer) (omega (arith, low, high)) ∙ ap (λ m. want_of m js xs) (back j low) ∙ w)
     where
-      outer : ℕ
-      outer = symbol_count args + loop_count way
+      back : (j : ℕ) → outer ≤ j → outer + (j - outer) ≡ j
+      back j h = omega (arith, h)
 
-      long : length (zs ++ ts) ≡ symbol_count args + loop_count way
-      long = omega (arith, length-append zs ts, fits_length args cells zs fits, visits_length way (start_env args zs) ts f visits)
+  -- what is known at the visit
+  abbrev start : List Header → Traced
+  start inner = traced_at args way (loop_count (way ++ inner))
 
-      by : (w : Option (List ℕ)) → (p : Parted args way inner at a) (s : Sweepable (zs ++ ts) inner p.k p.g) → variables_of (length s.gs) (symbol_count args + loop_count way) a.forms ≡ w → sweep_all (symbol_count args + loop_count way) s.gs ds w ≡ true → Swept inner at xs f
-      by None p s v c = absurd (let z : ⊥ = cc in z)
-      by (Some js) p s v c =
-          let os = zs ++ ts in
-          let n0 = length s.gs in
-          let one = and_parts (are_distinct js) (all_swept outer s.gs ds js && others_pass outer s.gs js) c in
-          let two = and_parts (all_swept outer s.gs ds js) (others_pass outer s.gs js) one.1 in
-          let ws = wants outer n0 js xs in
-          let us = chosen inner ws f in
-          let g = arrived inner ws f in
-          let loops : n0 ≡ loop_count inner = counted p s in
-          let parts : Parts os s.gs ws = subst (λ m. Parts os s.gs (wants m n0 js xs)) (plus_none outer)
-          (parts_from os outer s.gs js ds sizes xs two.0 within (subst (λ m. AreOver m ds) (sym long) over) [] s.gs refl (subst (λ m. others_pass m s.gs js ≡ true) (sym (plus_none outer)) two.1)) in
-          let there = answer _ p.k (ArrivedTo (zs ++ (ts ++ us)) us f) p.outside (loop_arrives args cells zs way inner (used inner at.operands) ts us f fits affine visits (chosen_long inner ws f) (loops_append way inner)) in
-          let vis : Visits inner f us g = s.visits f (us ++ there.more) ws (ap length (sym (nested us there.more)) ∙ there.long) there.ranges (subst (λ q. Holds p.k.next q us p.k f.known) (nested us there.more) there.holds) parts in
-          let acc = answer (access args (way ++ inner) at) a (AccessArrived (zs ++ (ts ++ us)) (results_of g at)) is
-          (access_arrives args cells zs (way ++ inner) at (ts ++ us) g fits (affine_append way inner affine aff) (visits_append way inner (start_env args zs) f g ts us visits vis)) in
-          let P = (zs ++ (ts ++ us)) ++ acc.more in
-          let named = variables_named n0 outer a.known.next P a.forms (results_of g at) js acc.forms v in
-          record {
-            turns = us;
-            env = g;
-            visits = vis;
-            subscripts = named_values outer n0 P js (results_of g at) named
-                ∙ all_wanted js xs (λ j. get_or P j (pos 0)) one.0 (sym (swept_long outer s.gs ds js two.0) ∙ in_long ds sizes os xs within) (λ j x w.
-                value_at j x acc.more js n0 ws us refl refl loops w (named_within outer n0 P js (results_of g at) named j (want_has j js xs x w)));
-          }
-        where
-          plus_none : (m : ℕ) → m + 0 ≡ m
-          plus_none m = omega arith
+  module _ (inner : List Header) (at : Access) (s : Swept) (found : Found inner at (start inner) s) (uncond : Unconditional inner) (js : List ℕ) (variables : variables_of (length s.goings) outer s.forms ≡ Some js)
+      (ds : List Dimension) (sizes : List ℕ) (xs : List ℤ) (over : AreOver outer ds) (within : AllIn ds sizes (zs ++ ts) xs) (distinct : are_distinct js ≡ true) (swept_ : all_swept outer s.goings ds js ≡ true) where
+    loops : length s.goings ≡ loop_count inner
+    loops = goings_long inner (start inner) s.goings found.loops
 
-          loops_append : (hs ks : List Header) → loop_count (hs ++ ks) ≡ loop_count hs + loop_count ks
-          loops_append [] ks = sym (none (loop_count ks))
-            where
-              none : (n : ℕ) → 0 + n ≡ n
-              none n = omega arith
-          loops_append (Round v l u s ∷ hs) ks = ap suc (loops_append hs ks) ∙ further (loop_count hs) (loop_count ks)
-            where
-              further : (n m : ℕ) → suc (n + m) ≡ suc n + m
-              further n m = omega arith
-          loops_append (Given set names ∷ hs) ks = loops_append hs ks
-          loops_append (Except set names first ∷ hs) ks = loops_append hs ks
-          loops_append (Behind p ∷ hs) ks = loops_append hs ks
-          loops_append (Past n ∷ hs) ks = loops_append hs ks
+    abbrev ws : List (Option ℤ)
+    ws = wants outer (length s.goings) js xs
 
-          nested : (us more : List ℤ) → (zs ++ (ts ++ us)) ++ more ≡ (zs ++ ts) ++ (us ++ more)
-          nested us more = ap (λ x. x ++ more) (sym (append_assoc zs ts us)) ∙ append_assoc (zs ++ ts) us more
+    -- in the turns that are chosen the subscripts are those wanted
+    are_wanted : (us more : List ℤ) (g : Env) → us ≡ chosen inner ws f → TracedIn ((zs ++ (ts ++ us)) ++ more) [] g.known (traced inner (start inner)) → results_of g at ≡ xs
+    are_wanted us more g ue t =
+        let k = traced inner (start inner) in
+        let p = (zs ++ (ts ++ us)) ++ more in
+        let good = answer (map_forms k.forms k.next at []) found.formed (AllGood p k.next t.long [] (results_of g at)) found.subscripts (map_gives p k.next t.long k.forms g t.forms at [] tt) in
+        let w = grows p found.formed.locals in
+        let q = (zs ++ (ts ++ us)) ++ (more ++ w.0) in
+        let n = k.next + length found.formed.locals in
+        let here : with_locals p found.formed.locals ≡ q = w.1 ∙ append_assoc (zs ++ (ts ++ us)) more w.0 in
+        let are : Are n q s.forms (results_of g at) = subst (λ fs. Are n q fs (results_of g at)) found.forms (subst (λ r. Are n r found.formed.forms (results_of g at)) here good.forms) in
+        let named = variables_named (length s.goings) outer n q s.forms (results_of g at) js are variables in
+        named_values outer (length s.goings) q js (results_of g at) named
+        ∙ all_wanted js xs (λ j. get_or q j (pos 0)) distinct (sym (swept_long outer s.goings ds js swept_) ∙ in_long ds sizes (zs ++ ts) xs within) (λ j x w2.
+        value_at inner xs j x (more ++ w.0) js (length s.goings) ws us refl ue loops w2 (named_within outer (length s.goings) q js (results_of g at) named j (want_has j js xs x w2)))
 
-          counted : (p : Parted args way inner at a) (s : Sweepable (zs ++ ts) inner p.k p.g) → length s.gs ≡ loop_count inner
-          counted p s =
-              let all = answer (along inner at.operands p.k) p.g (Counted (length p.k.goings + loop_count inner)) p.inside (along_counted inner at.operands p.k (length p.k.goings + loop_count inner) refl) in
-              omega (arith, all, ap length s.grown, length-append p.k.goings s.gs)
+    reached_by : others_pass outer s.goings js ≡ true → Reached inner at xs f
+    reached_by others =
+        let os = zs ++ ts in
+        let us = chosen inner ws f in
+        let g = arrived inner ws f in
+        let p = zs ++ (ts ++ us) in
+        let parts : Parts os s.goings ws = subst (λ m. Parts os s.goings (wants m (length s.goings) js xs)) (plus_none outer)
+        (parts_from os outer s.goings js ds sizes xs swept_ within (subst (λ m. AreOver m ds) (sym long) over) [] s.goings refl (subst (λ m. others_pass m s.goings js ≡ true) (sym (plus_none outer)) others)) in
+        let count : loop_count (way ++ inner) ≡ loop_count way + length us = omega (arith, loops_append way inner, chosen_long inner ws f) in
+        let begun = arrives_in args cells zs way (loop_count (way ++ inner)) ts us f fits visits count in
+        let vis : Visits inner f us g = turns_are_there os inner (start inner) s.goings uncond found.loops f (us ++ begun.more) ws (subst (λ q. TracedIn q us f.known (start inner)) (nested us begun.more) begun.there) parts in
+        let ended = along_in inner (start inner) f g us [] (p ++ begun.more) vis (subst (λ ys. TracedIn (p ++ begun.more) ys f.known (start inner)) (sym (append-nil us)) begun.there) in
+        record {
+          turns = us;
+          env = g;
+          visits = vis;
+          subscripts = are_wanted us (begun.more ++ ended.more) g refl (subst (λ q. TracedIn q [] g.known (traced inner (start inner))) (append_assoc p begun.more ended.more) ended.there);
+        }
 
-          value_at : (j : ℕ) (x : ℤ) (more : List ℤ) (js : List ℕ) (n0 : ℕ) (ws : List (Option ℤ)) (us : List ℤ) → ws ≡ wants outer n0 js xs → us ≡ chosen inner ws f → n0 ≡ loop_count inner → want_of j js xs ≡ Some x → (outer ≤ j) × (j < outer + n0)
-              → get_or ((zs ++ (ts ++ us)) ++ more) j (pos 0) ≡ x
-          value_at j x more js n0 ws us we ue loops w r =
-              let low = r.0 in
-              let high = r.1 in
-              let size : length us ≡ loop_count inner = ap length ue ∙ chosen_long inner ws f in
-              let there : j ≡ length (zs ++ ts) + (j - outer) = omega (arith, low, long) in
-              ap (λ q. get_or q j (pos 0)) (nested us more)
-              ∙ ap (λ m. get_or ((zs ++ ts) ++ (us ++ more)) m (pos 0)) there
-              ∙ get_behind (zs ++ ts) us more (j - outer) (omega (arith, low, high, size, loops))
-              ∙ ap (λ q. get_or q (j - outer) (pos 0)) ue
-              ∙ chosen_at inner ws f (j - outer) x (omega (arith, low, high, loops)) (ap (λ q. get_or q (j - outer) None) we ∙ wants_at outer n0 js xs (j - outer) (omega (arith, low, high)) ∙ ap (λ m. want_of m js xs) (back j low) ∙ w)
-            where
-              back : (j : ℕ) → outer ≤ j → outer + (j - outer) ≡ j
-              back j h = omega (arith, h)
+  reached : (inner : List Header) (at : Access) → Unconditional inner → (ds : List Dimension) (sizes : List ℕ) → covers_from outer ds (swept inner at (start inner)) ≡ true → AreOver outer ds → (xs : List ℤ) → AllIn ds sizes (zs ++ ts) xs → Reached inner at xs f
+  reached inner at uncond ds sizes c over xs within = by (swept inner at (start inner)) refl c
+    where
+      by_variables : (s : Swept) → Found inner at (start inner) s → (w : Option (List ℕ)) → variables_of (length s.goings) outer s.forms ≡ w → sweep_all outer s.goings ds w ≡ true → Reached inner at xs f
+      by_variables s found None v c = absurd (let z : ⊥ = cc in z)
+      by_variables s found (Some js) v c =
+          let one = and_parts (are_distinct js) (all_swept outer s.goings ds js && others_pass outer s.goings js) c in
+          let two = and_parts (all_swept outer s.goings ds js) (others_pass outer s.goings js) one.1 in
+          reached_by inner at s found uncond js v ds sizes xs over within one.0 two.0 two.1
+
+      by : (w : Result Swept LinearFault) → swept inner at (start inner) ≡ w → covers_from outer ds w ≡ true → Reached inner at xs f
+      by (Err e) a c = absurd (let z : ⊥ = cc in z)
+      by (Ok s) a c = by_variables s (found_of inner at (start inner) s a) (variables_of (length s.goings) outer s.forms) refl c
 
 -- the one store that covers
 pub record Covering (args : List Arg) (way : List Header) (us : List Use) (outer : ℕ) (ds : List Dimension) : Type 0 where
@@ -402,9 +404,7 @@ pub record Covering (args : List Arg) (way : List Header) (us : List Use) (outer
   pub at : Access
   pub one : us ≡ Affine there true at ∷ []
   pub free : unconditional (drop (length way) there) ≡ true
-  pub accessed : Accessed
-  pub is : access args there at ≡ Ok accessed
-  pub sweep : covers_from outer (loop_count way) ds accessed ≡ true
+  pub sweep : covers_from outer ds (swept (drop (length way) there) at (traced_at args way (loop_count there))) ≡ true
 
 covering : (args : List Arg) (way : List Header) (us : List Use) (outer : ℕ) (ds : List Dimension) → covers args way us outer ds ≡ true → Covering args way us outer ds
 unfolding covers
@@ -413,40 +413,38 @@ covering args way (Other ∷ us) outer ds h = absurd (let z : ⊥ = cc in z)
 covering args way (Affine there false at ∷ us) outer ds h = absurd (let z : ⊥ = cc in z)
 covering args way (Affine there true at ∷ (u ∷ us)) outer ds h = absurd (let z : ⊥ = cc in z)
 covering args way (Affine there true at ∷ []) outer ds h =
-    let both = and_parts (unconditional (drop (length way) there)) (covers_by outer (loop_count way) ds (access args there at)) h in
-    by (access args there at) refl both.0 both.1
-  where
-    by : (w : Result Accessed LinearFault) → access args there at ≡ w → unconditional (drop (length way) there) ≡ true → covers_by outer (loop_count way) ds w ≡ true → Covering args way (Affine there true at ∷ []) outer ds
-    by (Err e) i u c = absurd (let z : ⊥ = cc in z)
-    by (Ok a) i u c = record { there = there; at = at; one = refl; free = u; accessed = a; is = i; sweep = c }
+    let both = and_parts (unconditional (drop (length way) there)) (covers_from outer ds (swept (drop (length way) there) at (traced_at args way (loop_count there)))) h in
+    record { there = there; at = at; one = refl; free = both.0; sweep = both.1 }
 
 -- the one access of the memref in the loop is a store, and it comes to these subscripts
 pub record SweptBy (us : List Use) (way : List Header) (xs : List ℤ) (f : Env) : Type 0 where
   pub inner : List Header
   pub at : Access
   pub one : us ≡ Affine (way ++ inner) true at ∷ []
-  pub swept : Swept inner at xs f
+  pub swept : Reached inner at xs f
 
 pub swept_by_one : (m : Module) → IsValid m → (memory : Image) → Fits m memory → (steps : List (ℕ × Bool)) (way : List Header) (line : ℕ) (v : Name) (l u : Bound) (s : ℤ) (body rest : Nest)
     → at_path (nest m.body) steps ≡ Some (record { way = way; here = Loop line v l u s body rest })
-    → (name : Name) (sizes : List ℕ) (ds : List Dimension) → covers m.args way (uses_at name way v l u s body) (symbol_count m.args + loop_count way) ds ≡ true
+    → (name : Name) (sizes : List ℕ) (ds : List Dimension) → covers m.args way (loop_uses name way v l u s body) (symbol_count m.args + loop_count way) ds ≡ true
     → AreOver (symbol_count m.args + loop_count way) ds → (turns : List ℤ) (f : Env) → Visits way (start_env m.args memory.symbols) turns f
-    → (xs : List ℤ) → AllIn ds sizes (memory.symbols ++ turns) xs → SweptBy (uses_at name way v l u s body) way xs f
+    → (xs : List ℤ) → AllIn ds sizes (memory.symbols ++ turns) xs → SweptBy (loop_uses name way v l u s body) way xs f
 unfolding uses
 swept_by_one m valid memory fits steps way line v l u s body rest at_is name sizes ds c over turns f visits xs within =
     let outer = symbol_count m.args + loop_count way in
-    let us = uses_at name way v l u s body in
+    let us = loop_uses name way v l u s body in
     let p = path_affine (nest m.body) steps (record { way = way; here = Loop line v l u s body rest }) (valid_affine m valid) at_is in
     let loop = Loop line v l u s body Nothing in
     let affine_loop : AffineNest loop = (p.1.0, p.1.1, p.1.2, p.1.3, tt) in
     let k = covering m.args way us outer ds c in
     let behind_ = (subst (λ w. Each (IsBehind way) (w ++ [])) k.one (uses_behind name loop way affine_loop)).0 in
-    let free : Unconditional behind_.inner = unconditional_is behind_.inner (ap unconditional (sym (drop_front way behind_.inner) ∙ ap (drop (length way)) (sym behind_.way)) ∙ k.free) in
+    let same : drop (length way) k.there ≡ behind_.inner = ap (drop (length way)) behind_.way ∙ drop_front way behind_.inner in
+    let free : Unconditional behind_.inner = unconditional_is behind_.inner (ap unconditional (sym same) ∙ k.free) in
     record {
       inner = behind_.inner;
       at = k.at;
       one = k.one ∙ ap (λ w. Affine w true k.at ∷ []) behind_.way;
-      swept = swept m.args memory.memrefs memory.symbols fits.fits way p.0 turns f visits behind_.inner k.at k.accessed (ap (λ w. access m.args w k.at) (sym behind_.way) ∙ k.is) behind_.affine free ds sizes k.sweep over xs within;
+      swept = reached m.args memory.memrefs memory.symbols fits.fits way turns f visits behind_.inner k.at free ds sizes
+          ((λ i. covers_from outer ds (swept (sym same i) k.at (traced_at m.args way (loop_count (sym behind_.way i))))) ∙ k.sweep) over xs within;
     }
 
 pub covered_is_swept : CoveredIsSwept

@@ -1,0 +1,4 @@
+pub mod Traced
+pub mod Covers
+pub mod Law
+pub mod Told
