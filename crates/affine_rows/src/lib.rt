@@ -18,6 +18,8 @@ mod numbers;
 #[cfg(test)]
 mod operations;
 #[cfg(test)]
+mod order_policies;
+#[cfg(test)]
 mod products;
 #[cfg(test)]
 mod prompt_runs;
