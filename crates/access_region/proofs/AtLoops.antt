@@ -20,7 +20,7 @@ use Rattle.access_region.specs.Candidates.{Reaching}
 use Rattle.access_region.specs.Regions.{Outside, reaching, outside_at}
 use Rattle.access_region.specs.Places.{region_from, region_of}
 use Rattle.access_region.proofs.Froms.{stops}
-use Rattle.access_region.specs.Finding.{loop_in, loop_at, region_in, region_by, region_at}
+use Rattle.access_region.specs.Finding.{loop_in, loop_at, region_in, region_by, region_at, covers_in, covers_by, covers_at}
 
 at_head : (list : List Stmt) (s : Stmt) → slice_get list 0 ≡ Some s → (rest : Nest) × (nest list ≡ put_what s.what s.line rest)
 at_head [] s e = absurd (let z : ⊥ = cc in z)
@@ -46,6 +46,9 @@ no_loop_there way list s e no_loop = ap (loop_in way) (at_head list s e).1 ∙ b
 -- what is found is what the path names
 pub region_there : (args : List Arg) (s t : Spot) (o : Option Spot) (b : Block) (m : Name) (sizes : List ℕ) (dma : Bool) → Some t ≡ o → o ≡ Some s → Some b ≡ loop_at t → region_in args b m sizes dma ≡ region_at args s m sizes dma
 region_there args s t o b m sizes dma e f h = let same : t ≡ s = cc in ap (λ x. region_by args x m sizes dma) (h ∙ ap loop_at same)
+
+pub covers_there : (args : List Arg) (s t : Spot) (o : Option Spot) (b : Block) (m : Name) (ds : List Dimension) → Some t ≡ o → o ≡ Some s → Some b ≡ loop_at t → covers_in args b m ds ≡ covers_at args s m ds
+covers_there args s t o b m ds e f h = let same : t ≡ s = cc in ap (λ x. covers_by args x m ds) (h ∙ ap loop_at same)
 
 pub same_item : {A : Type 0} (xs : List A) (k : ℕ) (x y : A) → x ≡ get_or xs k x → slice_get xs k ≡ Some y → x ≡ y
 same_item [] k x y e h = absurd (let z : ⊥ = cc in z)

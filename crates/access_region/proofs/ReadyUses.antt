@@ -14,6 +14,7 @@ use Rattle.nest_domain.specs.Ways.{Header, Round, Given, Except, Behind, Past, S
 use Rattle.nest_domain.specs.Ready.{ReadyHeader, ReadyPlain, Ready, ReadyNest, ranges_along, ranges_at_end}
 use Rattle.nest_domain.proofs.Readiness.{no_step, either}
 use Rattle.text_places.specs.Blocks.{Block}
+use Rattle.box_covers.specs.Told.{AreReady}
 use Rattle.text_places.proofs.Readiness.{texts_ready}
 use Rattle.access_region.specs.Finding.{ReadyUse, loop_at, uses_in}
 
@@ -26,6 +27,12 @@ pub ready_with : (hs : List Header) (h : Header) (rho : Ranges) → Ready hs rho
 unfolding Ready
 ready_with [] h rho r k = (k, tt)
 ready_with (g ∷ hs) h rho r k = (r.0, ready_with hs h (ranges_along g rho) r.1 k)
+
+-- each thing on a way that can be gone along can be formed over some ranges
+pub each_ready : (hs : List Header) (rho : Ranges) → Ready hs rho → AreReady hs
+unfolding Ready
+each_ready [] rho r = tt
+each_ready (h ∷ hs) rho r = ((rho, r.0), each_ready hs (ranges_along h rho) r.1)
 
 pub plain_header : (rho : Ranges) (p : Plain) → ReadyPlain rho p → WorkablePlain rho p
 plain_header rho (Value r pick at) h = h

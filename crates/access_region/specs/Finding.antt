@@ -1,5 +1,5 @@
 -- The region of a memref at a loop of a text, and what is gathered for it.
-use Rattle.std.specs.Prelude.{ℕ, Bool, List, [], Option, Some, None, Result, Ok, Err}
+use Rattle.std.specs.Prelude.{ℕ, ◌+◌, Bool, false, List, [], Option, Some, None, Result, Ok, Err}
 use Rattle.affine_ast.specs.declared.module.Arg.{Arg}
 use Rattle.affine_ast.specs.declared.module.ArgKind.{ArgKind}
 use Rattle.affine_ast.specs.declared.module.ArgKind.TheVariants.{Memref, Index}
@@ -8,11 +8,12 @@ use Rattle.affine_ast.specs.declared.types.Access.{Access}
 use Rattle.affine_ast.specs.Intervals.{Ranges}
 use Rattle.affine_ast.specs.Nest.{Nest, Loop}
 use Rattle.module_work.specs.Workable.{WorkableAccess}
-use Rattle.nest_domain.specs.Ways.{Header, Use, Affine, Other, Spot}
-use Rattle.nest_domain.specs.Domains.{access}
+use Rattle.nest_domain.specs.Ways.{Header, Use, Affine, Other, Spot, loop_count}
+use Rattle.nest_domain.specs.Domains.{symbol_count, access}
 use Rattle.nest_domain.specs.Boxes.{Dimension}
 use Rattle.nest_domain.specs.Ready.{Ready, ranges_at_end}
 use Rattle.text_places.specs.Blocks.{Block}
+use Rattle.box_covers.specs.Covers.{covers}
 use Rattle.access_region.specs.Faults.{NoRegion, unplaced, ◌>>=◌, by_form}
 use Rattle.access_region.specs.Candidates.{Reaching}
 use Rattle.access_region.specs.Regions.{reaching_of, uses_at}
@@ -46,6 +47,19 @@ region_by args None m sizes dma = Err unplaced
 -- at the loop that stands there
 abbrev pub region_at : List Arg → Spot → Name → List ℕ → Bool → Result (List Dimension) NoRegion
 region_at args s m sizes dma = region_by args (loop_at s) m sizes dma
+
+-- ---- covers
+-- whether a box of a memref is covered at a loop
+abbrev pub covers_in : List Arg → Block → Name → List Dimension → Bool
+covers_in args b m ds = covers args b.way (uses_in m b) (symbol_count args + loop_count b.way) ds
+
+abbrev pub covers_by : List Arg → Option Block → Name → List Dimension → Bool
+covers_by args (Some b) m ds = covers_in args b m ds
+covers_by args None m ds = false
+
+-- at the loop that stands there
+abbrev pub covers_at : List Arg → Spot → Name → List Dimension → Bool
+covers_at args s m ds = covers_by args (loop_at s) m ds
 
 -- ---- what is gathered
 -- the way to an access can be gone along, and its subscripts can be formed

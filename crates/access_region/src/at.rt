@@ -76,7 +76,7 @@ pub fn region_of_uses<'a>(
 
 /// The loop that a path names.
 #[tactic(auto, using(crate::proofs::AtLoops::no_statement, crate::proofs::AtLoops::loop_there, crate::proofs::AtLoops::no_loop_there))]
-fn loop_of(found: Found<'_>) -> Option<FoundBlock<'_>>
+pub(crate) fn loop_of(found: Found<'_>) -> Option<FoundBlock<'_>>
     ensures { option_map block_of result ≡ loop_at (spot_of found.entry) }
 {
     let Some(first) = found.here.first() else {
@@ -103,7 +103,7 @@ fn loop_of(found: Found<'_>) -> Option<FoundBlock<'_>>
 }
 
 /// The accesses of a memref in a loop.
-fn uses_in<'a>(
+pub(crate) fn uses_in<'a>(
     alloc: Global,
     memref: &Name,
     block: &FoundBlock<'a>,

@@ -5,6 +5,7 @@ ghost use Rattle.access_region.specs.Laws.{RegionsLieWithin, RegionsHold, Region
 
 mod at;
 mod candidate;
+mod cover;
 mod dimension;
 mod fault;
 mod fits;
@@ -16,6 +17,7 @@ mod span;
 mod widening;
 
 pub use at::{region_of, region_of_uses};
+pub use cover::covers;
 pub use fault::RegionFault;
 pub use gather::outside_of;
 pub use reaching::{Outside, Reaching};
