@@ -1,0 +1,3 @@
+mod Blocked
+mod Sized
+mod Pieces
