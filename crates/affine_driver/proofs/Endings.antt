@@ -23,10 +23,11 @@ use Rattle.first_path.specs.Form.{IsOfFirstForm}
 use Rattle.mem_image.specs.Images as image
 use Rattle.mem_image.specs.Laws.{SpellsOne, BreaksOne, NotBoth}
 use Rattle.order_meaning.specs.Listed.{ListsOne}
+use Rattle.module_regions.specs.Lines.{regions_text}
 use Rattle.source_parts.specs.Parts.{text_part, image_part}
 use Rattle.affine_driver.specs.declared.command.Command.{Command}
 use Rattle.affine_driver.specs.declared.command.OrderOptions.{OrderOptions}
-use Rattle.affine_driver.specs.declared.command.Command.TheVariants.{Check, Stage, Plain, Run, Order}
+use Rattle.affine_driver.specs.declared.command.Command.TheVariants.{Check, Regions, Stage, Plain, Run, Order}
 use Rattle.affine_driver.specs.declared.ending.Ending.{Ending}
 use Rattle.affine_driver.specs.declared.ending.Ending.TheVariants as end
 use Rattle.affine_driver.specs.declared.refusal.Refusal.{Refusal}
@@ -228,6 +229,7 @@ one_order lists input options memory output other h k =
 -- one line a command
 makes_once : Known → (command : Command) (text : List ℕ) (input : Module) → Once (Makes command input text)
 makes_once known Check text input = given (λ output. output ≡ spelling input) (same_output (spelling input))
+makes_once known (Regions options) text input = limited input _ (given _ (same_output (regions_text input options.depth)))
 makes_once known (Stage options) text input = limited input _ (of_form input _ (given _ (λ output other h k. one_staged input output other h.0 k.0)))
 makes_once known Plain text input = limited input _ (runs_to_end known.images input text (λ memory. verdict_of (plain input memory)) _ (λ memory. given (IsPlainOutput input memory) (same_output _)))
 makes_once known (Run options) text input = runs_to_end known.images input text (λ memory. prompt_verdict (prompted options input memory)) _ (λ memory. given (IsRunOutput input options memory) (same_output _))

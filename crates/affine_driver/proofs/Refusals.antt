@@ -17,6 +17,9 @@ use Rattle.affine_grammar.specs.Spelling.{Spells}
 use Rattle.mem_image.specs.declared.parse.ImageFault.{ImageFault}
 use Rattle.mem_image.specs.declared.parse.ImageFault.TheVariants as image_fault
 use Rattle.mem_image.specs.Faults.{IsFault}
+use Rattle.module_regions.specs.declared.fault.LinesFault.{LinesFault}
+use Rattle.module_regions.specs.declared.fault.LinesFault.TheVariants as lines
+use Rattle.module_regions.specs.Lines.{Answers}
 use Rattle.source_parts.specs.Parts.{text_part, image_part}
 use Rattle.staged_texts.specs.Laws.{SpellsStaged}
 use Rattle.affine_driver.specs.declared.command.Command.{Command}
@@ -26,7 +29,7 @@ use Rattle.affine_driver.specs.declared.refusal.Refusal.{Refusal}
 use Rattle.affine_driver.specs.Behaviour.{Limited, OfFirstForm, Makes, ComesTo}
 use Rattle.affine_driver.specs.Outcome.{Outcome, Refused, Complete, Writes, Gives, Demands, Answered}
 use Rattle.affine_driver.specs.Output.{IsStageOutput}
-use Rattle.affine_driver.specs.Refusals.{OrMemory, SpellsNoImage, IsNotRead, of_parser, of_rules, of_image}
+use Rattle.affine_driver.specs.Refusals.{OrMemory, SpellsNoImage, IsNotRead, of_parser, of_rules, of_image, of_lines}
 use Rattle.affine_driver.proofs.Reports.{output_spells}
 
 -- a valid module that isn't of the first form with the rules of that form isn't of the first form
@@ -64,6 +67,12 @@ pub answered : {A : Type 0} (answer : Result A Refusal) (bytes_of : A → List �
 answered (Ok x) bytes_of One Other step h = step (Writes (bytes_of x)) h
 answered (Err refusal) bytes_of One Other step (inl m) = inl m
 answered (Err refusal) bytes_of One Other step (inr h) = inr (step (Refused refusal) h)
+
+-- why there are no lines of regions
+pub no_lines : {B : Type 0} (input : Module) (depth : ℕ) (bytes_of : B → List ℕ) (Behind : Outcome → Type 0) (fault : LinesFault) (refusal : Refusal) → refusal ≡ of_lines fault → Answers input depth bytes_of (Err fault)
+    → OrMemory (λ r. Limited input Behind (Refused r)) refusal
+no_lines input depth bytes_of Behind (lines.Plain line) refusal e h = inr (inl (refusal, ((line, (h, e)), refl)))
+no_lines input depth bytes_of Behind lines.Memory refusal e h = inl e
 
 -- ---- Commands
 

@@ -13,10 +13,11 @@ use Rattle.direct_meaning.specs.Work.{work}
 use Rattle.prompt_meaning.specs.Prompt.{prompt_verdict}
 use Rattle.first_path.specs.Form.{IsOfFirstForm}
 use Rattle.mem_image.specs.Images as image
+use Rattle.module_regions.specs.Lines.{regions_text}
 use Rattle.source_parts.specs.Parts.{text_part, image_part}
 use Rattle.staged_texts.specs.Laws.{SpellsStaged}
 use Rattle.affine_driver.specs.declared.command.Command.{Command}
-use Rattle.affine_driver.specs.declared.command.Command.TheVariants.{Check, Stage, Plain, Run, Order}
+use Rattle.affine_driver.specs.declared.command.Command.TheVariants.{Check, Regions, Stage, Plain, Run, Order}
 use Rattle.affine_driver.specs.declared.refusal.Refusal.{Refusal}
 use Rattle.affine_driver.specs.Outcome.{Outcome, Refused, Complete, Writes, Demands, Gives}
 use Rattle.affine_driver.specs.Output.{IsStageOutput, IsPlainOutput, IsRunOutput, IsOrderOutput, prompted}
@@ -50,11 +51,13 @@ RunsToEnd input text run Behind = Demands (SpellsNoImage text input) (image.Spel
 -- ---- Commands
 
 -- What a command makes of a valid module and the text of an image, one line a command: what it demands beyond the rules V1 to V12, in the
--- order in which it is asked for, and what it writes. `check` writes the module's printed spelling, `stage` its output, which spells a
--- valid module that runs as the module does, `plain` the printed image of the memory that the direct meaning leaves, `run` that of the
--- memory that the prompt meaning leaves, `order` the same with the trace and the number of steps of the run that the pick names.
+-- order in which it is asked for, and what it writes. `check` writes the module's printed spelling, `regions` the lines of its regions,
+-- `stage` its output, which spells a valid module that runs as the module does, `plain` the printed image of the memory that the direct
+-- meaning leaves, `run` that of the memory that the prompt meaning leaves, `order` the same with the trace and the number of steps of the
+-- run that the pick names.
 abbrev pub Makes : Command → Module → List ℕ → Outcome → Type 0
 Makes Check input text outcome = Gives (λ output. output ≡ spelling input) outcome
+Makes (Regions options) input text outcome = Limited input (Gives (λ output. output ≡ regions_text input options.depth)) outcome
 Makes (Stage options) input text outcome = Limited input (OfFirstForm input (Gives (λ output. IsStageOutput input output × SpellsStaged input output))) outcome
 Makes Plain input text outcome = Limited input (RunsToEnd input text (λ memory. verdict_of (plain input memory)) (λ memory. Gives (IsPlainOutput input memory))) outcome
 Makes (Run options) input text outcome = RunsToEnd input text (λ memory. prompt_verdict (prompted options input memory)) (λ memory. Gives (IsRunOutput input options memory)) outcome

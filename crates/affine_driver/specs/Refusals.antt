@@ -17,6 +17,8 @@ use Rattle.first_path.specs.Form.{IsOfFirstForm}
 use Rattle.mem_image.specs.declared.parse.ImageFault.{ImageFault}
 use Rattle.mem_image.specs.declared.parse.ImageFault.TheVariants as image_fault
 use Rattle.mem_image.specs.Images as image
+use Rattle.module_regions.specs.declared.fault.LinesFault.{LinesFault}
+use Rattle.module_regions.specs.declared.fault.LinesFault.TheVariants as lines
 use Rattle.affine_driver.specs.declared.ending.Ending.{Ending}
 use Rattle.affine_driver.specs.declared.ending.Ending.TheVariants as ending
 use Rattle.affine_driver.specs.declared.refusal.Refusal.{Refusal}
@@ -87,3 +89,7 @@ of_rules rules.Memory = Memory
 abbrev pub of_image : ImageFault → Refusal
 of_image (image_fault.Image line rule) = Image line rule
 of_image image_fault.Memory = Memory
+
+abbrev pub of_lines : LinesFault → Refusal
+of_lines (lines.Plain line) = Invalid line 13
+of_lines lines.Memory = Memory

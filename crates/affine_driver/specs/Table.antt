@@ -81,6 +81,7 @@ pub record IsAsWritten : Type 0 where
   pub pick : PICK ≡ Number (pos 0) (pos 9223372036854775807) (pos 0)
   pub number : NUMBER ≡ Number (pos 0) (pos 999999) (pos 0)
   pub check : standing_of first.Check ≡ Built
+  pub regions : standing_of first.Regions ≡ Built
   pub stage : standing_of first.Stage ≡ Built
   pub plain : standing_of first.Plain ≡ Built
   pub run : standing_of first.Run ≡ Built

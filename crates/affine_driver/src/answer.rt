@@ -13,6 +13,7 @@ use crate::limits::SOURCE_LIMIT;
 use crate::order::order_output;
 use crate::plain::plain_output;
 use crate::refusal::Refusal;
+use crate::regions::regions_output;
 use crate::stage::staged;
 use affine_ast::Verified;
 use affine_print::print;
@@ -54,7 +55,7 @@ pub(crate) fn answer_of(alloc: Global, command: Command, source: &[u8]) -> Resul
         Command::Check => checked(alloc, &verified),
         Command::Stage(_) => staged(alloc, &verified),
         Command::Plain => plain_output(alloc, &verified, parts.image),
-        Command::Regions(_) => unreachable!(),
+        Command::Regions(options) => regions_output(alloc, options, &verified),
         Command::Run(_) => unreachable!(),
         Command::Order(options) => order_output(alloc, options, &verified, parts.image),
         Command::Both(_) => unreachable!(),

@@ -16,6 +16,7 @@ mod limits;
 mod order;
 mod plain;
 mod refusal;
+mod regions;
 mod report;
 mod run;
 mod stage;

@@ -6,6 +6,7 @@ use affine_text::ParseFault;
 use affine_verify::VerifyFault;
 use bus_model::FaultKind;
 use mem_image::ImageFault;
+use module_regions::LinesFault;
 use std::alloc::AllocError;
 
 /// Why a source is refused under a command: an ending that the source decides, or want of memory. Numbers are those of `Ending`.
@@ -83,6 +84,19 @@ impl From<ImageFault> for Refusal {
         match fault {
             ImageFault::Image { line, rule } => Refusal::Image { line, rule },
             ImageFault::Memory => Refusal::Memory,
+        }
+    }
+}
+
+impl From<LinesFault> for Refusal {
+    ghost use Rattle.affine_driver.specs.Refusals.{of_lines};
+
+    ghost from_gives = { λ fault refusal. refusal ≡ of_lines fault };
+
+    fn from(fault: LinesFault) -> Refusal {
+        match fault {
+            LinesFault::Plain { line } => Refusal::Invalid { line, rule: 13 },
+            LinesFault::Memory => Refusal::Memory,
         }
     }
 }

@@ -7,9 +7,9 @@ use command_words::{CommandOption, Standing, Takes};
 
 pub const CHECK: Standing = Built;
 
-pub const REGIONS: Standing = Unbuilt;
+pub const REGIONS: Standing = Built;
 
-pub const REGIONS_DEPTH: Standing = Unbuilt;
+pub const REGIONS_DEPTH: Standing = Built;
 
 pub const STAGE: Standing = Built;
 

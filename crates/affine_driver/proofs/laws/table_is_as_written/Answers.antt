@@ -11,6 +11,7 @@ returns c = record {
   pick = refl;
   number = refl;
   check = refl;
+  regions = refl;
   stage = refl;
   plain = refl;
   run = refl;
