@@ -75,8 +75,8 @@ pub fn run_case<R: Files + Print + AllocGlobal + Threads + Wait + Sync>(
     let mut source = MemSource::new(bytes, fails_read, case.most_read.max(1));
     let mut sink = MemSink::new(alloc, ROOM, fails_write, case.most_write.max(1))?;
     let ending = affine_main(
-        alloc,
         rt,
+        alloc,
         case.words.as_slice(),
         &mut source,
         &mut sink,

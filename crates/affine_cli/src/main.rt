@@ -34,8 +34,8 @@ fn answer<R: Env + AllocGlobal + Input + Print + Threads + Wait + Sync>(
     let mut source = StdSource::new(rt.reader());
     let mut sink = StdSink::new(io::writer(rt));
     Ok(affine_main(
-        rt.alloc(),
         rt,
+        rt.alloc(),
         words.as_slice(),
         &mut source,
         &mut sink,

@@ -70,8 +70,8 @@ options_of first.Both =
     ∷ alone (codes "filler") FILLER BOTH_FILLER ∷ alone (codes "engines") ENGINES BOTH_ENGINES ∷ []
 options_of first.Sample = alone (codes "number") NUMBER SAMPLE_NUMBER ∷ []
 
--- the ranges of numbers, both ends counted, and their defaults; the commands that the program has, and the options of `stage`
--- that it hasn't; and the most bytes of a source
+-- the ranges of numbers, both ends counted, and their defaults; the commands and options that the program has, and the options of
+-- `stage` that it hasn't; and the most bytes of a source
 pub record IsAsWritten : Type 0 where
   pub depth : DEPTH ≡ Number (pos 0) (pos 7) (pos 0)
   pub buffers : BUFFERS ≡ Number (pos 2) (pos 8) (pos 2)
@@ -86,6 +86,14 @@ pub record IsAsWritten : Type 0 where
   pub plain : standing_of first.Plain ≡ Built
   pub run : standing_of first.Run ≡ Built
   pub order : standing_of first.Order ≡ Built
+  pub regions_depth : REGIONS_DEPTH ≡ Built
+  pub run_capacity : RUN_CAPACITY ≡ Built
+  pub run_filler : RUN_FILLER ≡ Built
+  pub run_engines : RUN_ENGINES ≡ Built
+  pub order_capacity : ORDER_CAPACITY ≡ Built
+  pub order_filler : ORDER_FILLER ≡ Built
+  pub order_engines : ORDER_ENGINES ≡ Built
+  pub order_pick : ORDER_PICK ≡ Built
   pub stage_depth : STAGE_DEPTH ≡ Unbuilt
   pub stage_dma : STAGE_DMA ≡ Unbuilt
   pub stage_double : STAGE_DOUBLE ≡ Unbuilt

@@ -53,8 +53,8 @@ pub fn stage_main<S: Source, K: Sink>(
 /// The gate is called round the steps of the engines and of the compute thread. The call may wait; if it returns, all is as
 /// with `stage_main`.
 pub fn run_main<R: Threads + Wait + Sync, S: Source, K: Sink, G: Gate + Sync>(
-    alloc: Global,
     rt: &R,
+    alloc: Global,
     words: &[&str],
     source: &mut S,
     sink: &mut K,
@@ -85,8 +85,8 @@ pub fn run_main<R: Threads + Wait + Sync, S: Source, K: Sink, G: Gate + Sync>(
 /// Reads a source and writes the command's output to the sink: `run_main` for a command that runs threads, `stage_main` for every
 /// other.
 pub fn affine_main<R: Threads + Wait + Sync, S: Source, K: Sink, G: Gate + Sync>(
-    alloc: Global,
     rt: &R,
+    alloc: Global,
     words: &[&str],
     source: &mut S,
     sink: &mut K,
@@ -103,7 +103,7 @@ pub fn affine_main<R: Threads + Wait + Sync, S: Source, K: Sink, G: Gate + Sync>
     ensures write_fault { result ≡ Ending.WriteFault → Rose (K.faults sink.old) (K.faults sink.new) }
 {
     if ask_for_threads(words) {
-        run_main(alloc, rt, words, source, sink, gate)
+        run_main(rt, alloc, words, source, sink, gate)
     } else {
         stage_main(alloc, words, source, sink)
     }

@@ -19,7 +19,7 @@ pub(crate) fn written<R: Threads + Wait + Sync, G: Gate + Sync>(
 ) -> Result<Option<Vec<u8>>, AllocError> {
     let mut source = MemSource::new(Vec::from_slice(alloc, text)?, Vec::new(alloc), 4096);
     let mut sink = MemSink::new(alloc, ROOM, Vec::new(alloc), 4096)?;
-    let ending = affine_main(alloc, rt, words, &mut source, &mut sink, gate);
+    let ending = affine_main(rt, alloc, words, &mut source, &mut sink, gate);
     if !matches!(ending, Ending::Done) {
         return Ok(None);
     }
