@@ -24,6 +24,8 @@ mod products;
 #[cfg(test)]
 mod prompt_runs;
 #[cfg(test)]
+mod regions;
+#[cfg(test)]
 mod runs;
 #[cfg(test)]
 mod samples;
