@@ -1,4 +1,4 @@
-mod Folds
+pub mod Folds
 pub mod Plans
 pub mod Copies
 pub mod Rows

@@ -1,0 +1,4 @@
+pub mod Spots
+pub mod Rings
+pub mod Plan
+pub mod Law
