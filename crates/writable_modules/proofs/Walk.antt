@@ -116,7 +116,7 @@ own_front own (Branch line set names first has other rest) b h = (h.0, h.1, h.2,
 own_front own (Does line p rest) b h = (h.0, own_front own rest b h.1)
 
 -- ---- names
-names_front : (a : Nest) (line : ℕ) → defined (followed_by a (Does line Return Nothing)) ≡ defined a
+pub names_front : (a : Nest) (line : ℕ) → defined (followed_by a (Does line Return Nothing)) ≡ defined a
 unfolding defined
 names_front Nothing line = refl
 names_front (Loop last v l u s body rest) line = ap (λ ns. v ∷ defined body ++ ns) (names_front rest line)
@@ -131,11 +131,11 @@ one_written (x ∷ ns) n w h = by (same_name x n) refl h (λ k. one_written ns n
     by true t h again = subst IsWritten (same_name-eq x n t) w.0
     by false t h again = again h
 
-join_written : (xs ys : List Name) → AllWritten xs → AllWritten ys → AllWritten (xs ++ ys)
+pub join_written : (xs ys : List Name) → AllWritten xs → AllWritten ys → AllWritten (xs ++ ys)
 join_written [] ys h k = k
 join_written (x ∷ xs) ys h k = (h.0, join_written xs ys h.1 k)
 
-arguments_written : (args : List Arg) → ArgumentsFit args → AllWritten (names_of args)
+pub arguments_written : (args : List Arg) → ArgumentsFit args → AllWritten (names_of args)
 arguments_written [] h = tt
 arguments_written (arg ∷ args) h = (h.0.name, arguments_written args h.1)
 

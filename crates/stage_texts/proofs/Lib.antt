@@ -1,0 +1,4 @@
+pub mod Ordered
+pub mod Staged
+pub mod Names
+pub mod Law

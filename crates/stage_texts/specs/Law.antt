@@ -1,0 +1,14 @@
+-- What the module that staging makes of a module of a text has of a text.
+use Rattle.std.specs.Prelude.{◌≡◌, None}
+use Rattle.affine_ast.specs.declared.module.Module.{Module}
+use Rattle.affine_ast.specs.PlainLimits.{plain_fault}
+use Rattle.affine_ast.specs.Validity.{IsValid}
+use Rattle.nest_domain.specs.declared.plan.Options.{Options}
+use Rattle.numbered_names.specs.Numbers.{value_names}
+use Rattle.plan_theorem.specs.Law.{IsWritten}
+use Rattle.printed_texts.specs.Writable.{AllWritten, MayBeWritten}
+use Rattle.stage_laws.specs.Law.{IsStageOf}
+
+-- of a valid module that may be written and meets V13: the names of its stage's values are names of the grammar, and none counts as made
+abbrev pub StageNames : Type 0
+StageNames = (o : Options) (m q : Module) → IsValid m → plain_fault m ≡ None → IsWritten m → MayBeWritten m → IsStageOf o m q → AllWritten (value_names q)

@@ -1,0 +1,18 @@
+//! What the module that staging makes of a module of a text has of a text.
+//!
+//! Laws alone: the names of its values are names of the grammar, and subscripts with their dimensions numbered by first appearance
+//! have the order that the grammar asks for. They are parts of the law that the printed text of a stage spells it.
+#![tactic(auto)]
+
+ghost use Rattle.stage_texts.specs.Law.{StageNames};
+ghost use Rattle.stage_texts.specs.Order.{NormalAppears};
+
+/// The names of a stage's values are names of the grammar.
+pub fn stage_names()
+    ensures { StageNames }
+{}
+
+/// Subscripts with their dimensions numbered by first appearance are in order.
+pub fn normal_appears()
+    ensures { NormalAppears }
+{}
