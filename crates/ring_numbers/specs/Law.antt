@@ -15,7 +15,7 @@ use Rattle.plan_numbers.specs.Modules.{tiles}
 use Rattle.plan_numbers.specs.Law.{tile}
 use Rattle.ring_plans.specs.Rings.{double_at}
 use Rattle.ring_plans.specs.Plan.{ring_plan, ring_text}
-use Rattle.ring_numbers.specs.Texts.{three_loops, one_loop, sevens}
+use Rattle.ring_numbers.specs.Texts.{three_loops, one_loop, sevens, sevens_read}
 use Rattle.ring_numbers.specs.Placements.{tile_placement}
 
 -- a module's text with the tile's placement, and a ring for it
@@ -46,3 +46,13 @@ pub record RingPlansAre : Type 0 where
   pub text : ring_text (with_double 2 128) tiles ≡ three_loops 2 (pos 16) (pos 1) (pos 48) (pos 48)
   pub single : ring_plan (with_double 2 127) tiles ≡ tile_decided (doubling.Single cause.Capacity)
   pub single_text : ring_text (with_double 2 127) tiles ≡ stage_one (tile_placement true) (Inside Here) (nest tiles.body)
+
+abbrev pub outward_decided : Doubling → List Decision
+outward_decided d = record { block = 0; line = 3; memref = 0; outcome = outcome.Staged (record { steps = (0, false) ∷ (0, false) ∷ [] }) tile false true d } ∷ []
+
+pub record OutwardPlansAre : Type 0 where
+  -- a tile that is stored to only isn't read in, and doubled outward
+  pub doubled : ring_plan (with_double 2 128) sevens ≡ outward_decided doubling.Doubled
+  pub text : ring_text (with_double 2 128) sevens ≡ one_loop 2 (pos 32) (pos 32)
+  -- but not where the memref is read in the loop outside the tile's
+  pub single : ring_plan (with_double 2 128) sevens_read ≡ outward_decided (doubling.Single cause.Dependence)

@@ -4,7 +4,7 @@ use Rattle.affine_expr.specs.declared.expr.Expr.{Expr, Dim, Const, Add, Sub, Flo
 use Rattle.affine_expr.specs.declared.map.Rel.TheVariants as rel
 use Rattle.affine_expr.specs.declared.map.Set.{Set}
 use Rattle.affine_ast.specs.declared.name.Name.{Name}
-use Rattle.affine_ast.specs.declared.stmt.What.{For, Store as StoreIn, Constant as ConstantIs, Return as Returns}
+use Rattle.affine_ast.specs.declared.stmt.What.{For, Load as LoadFrom, Store as StoreIn, Constant as ConstantIs, Return as Returns}
 use Rattle.affine_ast.specs.declared.module.Module.{Module}
 use Rattle.affine_ast.specs.declared.types.Access.{Access}
 use Rattle.affine_ast.specs.declared.types.Bound.TheVariants as bound
@@ -120,5 +120,21 @@ sevens = record {
       stmt 2 (For it (bound.Int (pos 0)) (bound.Int (pos 64)) (pos 16) (
       stmt 3 (For i (bound.Map (at (Dim 0) it)) (bound.Map (at (Add (Dim 0) (Const (pos 16))) it)) (pos 1) (
       stmt 4 (ConstantIs c (pos 7) (scalar.Int I32)) ∷ stmt 5 (StoreIn c A (at (Dim 0) i) (slow 64)) ∷ [])) ∷ []))
+      ∷ stmt 10 Returns ∷ [];
+}
+
+-- the same of 65 numbers, of which each tile's turn reads the last one
+abbrev pub last_number : Access
+last_number = record { map = record { dims = 0; syms = 0; results = Const (pos 64) ∷ [] }; operands = [] }
+
+abbrev pub sevens_read : Module
+sevens_read = record {
+  name = codes "f";
+  args = memref_a 65;
+  body =
+      stmt 2 (For it (bound.Int (pos 0)) (bound.Int (pos 64)) (pos 16) (
+      stmt 3 (For i (bound.Map (at (Dim 0) it)) (bound.Map (at (Add (Dim 0) (Const (pos 16))) it)) (pos 1) (
+      stmt 4 (ConstantIs c (pos 7) (scalar.Int I32)) ∷ stmt 5 (StoreIn c A (at (Dim 0) i) (slow 65)) ∷ []))
+      ∷ stmt 7 (LoadFrom loaded A last_number (slow 65)) ∷ []))
       ∷ stmt 10 Returns ∷ [];
 }

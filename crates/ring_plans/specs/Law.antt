@@ -1,12 +1,17 @@
 -- What holds of every plan with doubling.
-use Rattle.std.specs.Prelude.{◌≡◌, ◌≤◌, true}
+use Rattle.std.specs.Prelude.{◌≡◌, ◌≤◌, true, false, List, [], ◌∷◌}
 use Rattle.affine_ast.specs.declared.module.Module.{Module}
 use Rattle.affine_ast.specs.Nest.{nest}
+use Rattle.nest_domain.specs.declared.plan.Decision.{Decision}
+use Rattle.nest_domain.specs.declared.plan.Doubling.TheVariants as doubling
 use Rattle.nest_domain.specs.declared.plan.Options.{Options}
+use Rattle.nest_domain.specs.declared.plan.Outcome.{Outcome}
+use Rattle.nest_domain.specs.declared.plan.Outcome.TheVariants as outcome
 use Rattle.peak_laws.specs.Peak.{peak_of, peak}
 use Rattle.plan_laws.specs.Limits.{keeps_limits, keeps_intervals}
+use Rattle.plan_laws.specs.Plan.{plan, planned_text}
 use Rattle.plan_laws.specs.Sites.{lined}
-use Rattle.ring_plans.specs.Plan.{ring_text}
+use Rattle.ring_plans.specs.Plan.{ring_plan, ring_text}
 
 -- where the module keeps to the rule on intervals, so does the text with the placements and their rings; where the capacity holds the
 -- module's own peak, it holds that of this text; and where the module keeps to the limits, so does this text
@@ -17,3 +22,21 @@ pub record KeepsWithin (o : Options) (m : Module) : Type 0 where
 
 abbrev pub RingsKeepWithin : Type 0
 RingsKeepWithin = (o : Options) (m : Module) → KeepsWithin o m
+
+-- ---- what doubling leaves as it was
+abbrev pub undoubled_outcome : Outcome → Outcome
+undoubled_outcome (outcome.Left c) = outcome.Left c
+undoubled_outcome (outcome.Staged at ds reads writes d) = outcome.Staged at ds reads writes doubling.NotAsked
+
+-- the decisions without a word on doubling
+abbrev pub undoubled : List Decision → List Decision
+undoubled [] = []
+undoubled (d ∷ ds) = record d { outcome = undoubled_outcome d.outcome } ∷ undoubled ds
+
+-- a plan with doubling says of each memref what the plan without it says, and then whether it is doubled
+abbrev pub PlacementsStay : Type 0
+PlacementsStay = (o : Options) (m : Module) → undoubled (ring_plan o m) ≡ plan o m
+
+-- where doubling isn't asked for, the plan and its text are those without it
+abbrev pub PlainPlansStay : Type 0
+PlainPlansStay = (o : Options) (m : Module) → o.double ≡ false → (ring_plan o m ≡ plan o m) × (ring_text o m ≡ planned_text o m)

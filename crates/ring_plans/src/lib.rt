@@ -6,9 +6,19 @@
 //! doubling of `plan_laws`, on the three loops of `loop_forms` and on the clash of `dependence`.
 #![tactic(auto)]
 
-ghost use Rattle.ring_plans.specs.Law.{RingsKeepWithin};
+ghost use Rattle.ring_plans.specs.Law.{PlacementsStay, PlainPlansStay, RingsKeepWithin};
 
 /// The text with a plan's rings keeps to the rule on intervals, within the capacity and to the limits, each where the module does.
 pub fn rings_keep_within()
     ensures { RingsKeepWithin }
+{}
+
+/// Doubling changes no decision but by its word on doubling.
+pub fn placements_stay()
+    ensures { PlacementsStay }
+{}
+
+/// Where doubling isn't asked for, the plan and its text are those without it.
+pub fn plain_plans_stay()
+    ensures { PlainPlansStay }
 {}
