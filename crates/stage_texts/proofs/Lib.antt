@@ -2,3 +2,4 @@ pub mod Ordered
 pub mod Staged
 pub mod Names
 pub mod Law
+pub mod Shape

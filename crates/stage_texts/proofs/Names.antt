@@ -24,7 +24,8 @@ use Rattle.printed_texts.proofs.Pieces.{is_id_byte}
 use Rattle.normal_texts.specs.Texts.{normal_plain, normal_text}
 use Rattle.numbered_names.specs.Numbers.{defined, made_of, place_of, underscores, number_of, numbered_name, numbered_arg}
 use Rattle.numbered_names.proofs.Apart.{made_fewer}
-use Rattle.stage_texts.proofs.Staged.{Each, HoldsOf, each_staged}
+use Rattle.stage_texts.specs.Shape.{Each}
+use Rattle.stage_texts.proofs.Staged.{HoldsOf, each_staged}
 
 -- ---- one name
 digit_id : (b : ℕ) → is_ascii_digit b ≡ true → is_id_byte b ≡ true

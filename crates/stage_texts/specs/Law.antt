@@ -8,7 +8,16 @@ use Rattle.numbered_names.specs.Numbers.{value_names}
 use Rattle.plan_theorem.specs.Law.{IsWritten}
 use Rattle.printed_texts.specs.Writable.{AllWritten, MayBeWritten}
 use Rattle.stage_laws.specs.Law.{IsStageOf}
+use Rattle.stage_texts.specs.Shape.{HasShape}
 
 -- of a valid module that may be written and meets V13: the names of its stage's values are names of the grammar, and none counts as made
 abbrev pub StageNames : Type 0
 StageNames = (o : Options) (m q : Module) → IsValid m → plain_fault m ≡ None → IsWritten m → MayBeWritten m → IsStageOf o m q → AllWritten (value_names q)
+
+-- its body has the shape of a text's
+abbrev pub StageShape : Type 0
+StageShape = (o : Options) (m q : Module) → HasShape m → IsStageOf o m q → HasShape q
+
+-- as has the body of each module that may be written
+abbrev pub WrittenShape : Type 0
+WrittenShape = (m : Module) → MayBeWritten m → HasShape m

@@ -1,2 +1,3 @@
 pub mod Order
+pub mod Shape
 pub mod Law

@@ -4,7 +4,7 @@
 //! have the order that the grammar asks for. They are parts of the law that the printed text of a stage spells it.
 #![tactic(auto)]
 
-ghost use Rattle.stage_texts.specs.Law.{StageNames};
+ghost use Rattle.stage_texts.specs.Law.{StageNames, StageShape, WrittenShape};
 ghost use Rattle.stage_texts.specs.Order.{NormalAppears};
 
 /// The names of a stage's values are names of the grammar.
@@ -15,4 +15,10 @@ pub fn stage_names()
 /// Subscripts with their dimensions numbered by first appearance are in order.
 pub fn normal_appears()
     ensures { NormalAppears }
+{}
+
+/// The body of a stage has the shape of a text's, as has that of each module that may be written.
+pub fn stage_shape()
+    ensures stages { StageShape }
+    ensures written { WrittenShape }
 {}
