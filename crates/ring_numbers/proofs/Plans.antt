@@ -41,7 +41,7 @@ use Rattle.plan_numbers.proofs.Folds.{bounds, spread_parts}
 use Rattle.plan_numbers.proofs.Plans.{round, round_is, placement, placed, text}
 use Rattle.ring_plans.specs.Rings.{double_at}
 use Rattle.ring_plans.specs.Plan.{Judged, Ringed, clashes, or_else, when, ring_cause, splits, with_cause, with_rings, ringed_from, regions_in, begun, with_doublings, ringed, ring_plan}
-use Rattle.ring_numbers.specs.Law.{with_double, RingPlansAre}
+use Rattle.ring_numbers.specs.Law.{with_double, wide_tile, two_tiles, RingPlansAre}
 use Rattle.ring_numbers.proofs.Rings.{number_const, rings}
 
 abbrev whole : List Dimension
@@ -162,6 +162,10 @@ module _ (capacity : ℕ) (few : nat_lt capacity 64 ≡ false) where
       → ring_plan (with_double 2 capacity) tiles ≡ with_doublings staged_tile (map (λ (x : Judged). x.doubling) (with_it c).placements)
   plan_is c h = λ j. with_doublings (planned_is capacity few j).decisions (map (λ (x : Judged). x.doubling) (ringed_is c h j).placements)
 
+two_clash : clashes (with_double 2 128) tiles.args round (two_tiles true) wide_tile Here ≡ Some cause.Dependence
+unfolding clash clash_system place along used padded minus system_of row_at emptiness tidied pair_of step steps eliminated same_name put join_forms scale_form number_form variable_form narrowed combined gcd_of floor_div first_turn last_end
+two_clash = refl
+
 pub plans : RingPlansAre
 unfolding same_name
 plans = record {
@@ -171,4 +175,6 @@ plans = record {
       ∙ sym (ap (λ n. double_at 2 (placement ∷ []) Here (stage_one placement (Inside Here) n)) round_is) ∙ rings.two;
   single = plan_is 127 refl (Some cause.Capacity) one_cause;
   single_text = ap (λ (r : Ringed). r.text) (ringed_is 127 refl (Some cause.Capacity) one_cause) ∙ sym (ap (stage_one placement (Inside Here)) round_is);
+  next_turn = ap (λ n. clashes (with_double 2 128) tiles.args n (two_tiles true) wide_tile Here) round_is ∙ two_clash;
+  only_read = ap (λ n. clashes (with_double 2 128) tiles.args n (two_tiles false) wide_tile Here) round_is;
 }
