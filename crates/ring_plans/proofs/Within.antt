@@ -20,11 +20,11 @@ use Rattle.ring_plans.specs.Plan.{Judged, Ringed, InLoop, or_else, when, has_sha
 use Rattle.ring_plans.specs.Law.{RingsKeepWithin}
 
 -- of no first cause, none of the causes holds
-no_more : (a b : Option Cause) → or_else a b ≡ None → (a ≡ None) × (b ≡ None)
+pub no_more : (a b : Option Cause) → or_else a b ≡ None → (a ≡ None) × (b ≡ None)
 no_more None b h = (refl, h)
 no_more (Some c) b h = absurd (let z : ⊥ = cc in z)
 
-not_so : (b : Bool) (c : Cause) → when b c ≡ None → b ≡ false
+pub not_so : (b : Bool) (c : Cause) → when b c ≡ None → b ≡ false
 not_so true c h = absurd (let z : ⊥ = cc in z)
 not_so false c h = refl
 

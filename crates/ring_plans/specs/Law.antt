@@ -7,11 +7,13 @@ use Rattle.nest_domain.specs.declared.plan.Doubling.TheVariants as doubling
 use Rattle.nest_domain.specs.declared.plan.Options.{Options}
 use Rattle.nest_domain.specs.declared.plan.Outcome.{Outcome}
 use Rattle.nest_domain.specs.declared.plan.Outcome.TheVariants as outcome
+use Rattle.placement_texts.specs.Spots.{Spot}
 use Rattle.peak_laws.specs.Peak.{peak_of, peak}
 use Rattle.plan_laws.specs.Limits.{keeps_limits, keeps_intervals}
 use Rattle.plan_laws.specs.Plan.{plan, planned_text}
 use Rattle.plan_laws.specs.Sites.{lined}
-use Rattle.ring_plans.specs.Plan.{ring_plan, ring_text}
+use Rattle.ring_plans.specs.Plan.{ringed, ring_plan, ring_text}
+use Rattle.ring_plans.specs.Spots.{one_lies_in}
 
 -- where the module keeps to the rule on intervals, so does the text with the placements and their rings; where the capacity holds the
 -- module's own peak, it holds that of this text; and where the module keeps to the limits, so does this text
@@ -40,3 +42,13 @@ PlacementsStay = (o : Options) (m : Module) → undoubled (ring_plan o m) ≡ pl
 -- where doubling isn't asked for, the plan and its text are those without it
 abbrev pub PlainPlansStay : Type 0
 PlainPlansStay = (o : Options) (m : Module) → o.double ≡ false → (ring_plan o m ≡ plan o m) × (ring_text o m ≡ planned_text o m)
+
+-- ---- loops with rings
+-- none of the loops lies in one that comes before it in the list
+abbrev pub NoneHolds : List Spot → Type 0
+NoneHolds [] = Unit {0}
+NoneHolds (l ∷ ls) = (one_lies_in l ls ≡ false) × NoneHolds ls
+
+-- a loop gets rings only while no loop in it has some; the list begins with the last one
+abbrev pub RingsHoldNoRings : Type 0
+RingsHoldNoRings = (o : Options) (m : Module) → NoneHolds (ringed o m).loops

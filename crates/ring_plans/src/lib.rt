@@ -6,7 +6,7 @@
 //! doubling of `plan_laws`, on the three loops of `loop_forms` and on the clash of `dependence`.
 #![tactic(auto)]
 
-ghost use Rattle.ring_plans.specs.Law.{PlacementsStay, PlainPlansStay, RingsKeepWithin};
+ghost use Rattle.ring_plans.specs.Law.{PlacementsStay, PlainPlansStay, RingsHoldNoRings, RingsKeepWithin};
 
 /// The text with a plan's rings keeps to the rule on intervals, within the capacity and to the limits, each where the module does.
 pub fn rings_keep_within()
@@ -21,4 +21,9 @@ pub fn placements_stay()
 /// Where doubling isn't asked for, the plan and its text are those without it.
 pub fn plain_plans_stay()
     ensures { PlainPlansStay }
+{}
+
+/// A loop gets rings only while no loop in it has some.
+pub fn rings_hold_no_rings()
+    ensures { RingsHoldNoRings }
 {}
