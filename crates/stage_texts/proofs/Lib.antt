@@ -3,3 +3,5 @@ pub mod Staged
 pub mod Names
 pub mod Law
 pub mod Shape
+pub mod Limits
+pub mod Keeps

@@ -11,7 +11,7 @@ use Rattle.printed_texts.proofs.Operands.{operands-roll}
 use Rattle.stage_texts.specs.Order.{SymbolsAppear, NormalAppears}
 
 -- ---- operands
-abbrev op_to : (ℕ → ℕ) → Operand → Operand
+abbrev pub op_to : (ℕ → ℕ) → Operand → Operand
 op_to f (Dimension n) = Dimension (f n)
 op_to f (Symbol n) = Symbol n
 op_to f (Integer z) = Integer z
@@ -86,7 +86,7 @@ module _ (f : ℕ → ℕ) where
       two_go (Expr-F.CeilDiv a.0 b.0) (Expr-F.CeilDiv (renumbered f a.0) (renumbered f b.0)) a.0 b.0 refl (operands-roll (Expr-F.CeilDiv (renumbered f a.0) (renumbered f b.0))) (operands-roll (Expr-F.CeilDiv a.0 b.0)) a.1 b.1
   goes_layer (Expr-F.Mod a b) = two_go (Expr-F.Mod a.0 b.0) (Expr-F.Mod (renumbered f a.0) (renumbered f b.0)) a.0 b.0 refl (operands-roll (Expr-F.Mod (renumbered f a.0) (renumbered f b.0))) (operands-roll (Expr-F.Mod a.0 b.0)) a.1 b.1
 
-  operands_go : (e : Expr) → Goes e
+  pub operands_go : (e : Expr) → Goes e
   operands_go = ind-Expr Goes (λ x y is. subst (λ z. Goes (roll-Expr z)) is (goes_layer y))
 
   all_go : (es : List Expr) → flat_map operands_of (map (renumbered f) es) ≡ map (op_to f) (flat_map operands_of es)

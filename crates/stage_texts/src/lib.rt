@@ -4,7 +4,7 @@
 //! have the order that the grammar asks for. They are parts of the law that the printed text of a stage spells it.
 #![tactic(auto)]
 
-ghost use Rattle.stage_texts.specs.Law.{StageNames, StageShape, WrittenShape};
+ghost use Rattle.stage_texts.specs.Law.{StageKeeps, StageNames, StageShape, WrittenKeeps, WrittenShape};
 ghost use Rattle.stage_texts.specs.Order.{NormalAppears};
 
 /// The names of a stage's values are names of the grammar.
@@ -21,4 +21,10 @@ pub fn normal_appears()
 pub fn stage_shape()
     ensures stages { StageShape }
     ensures written { WrittenShape }
+{}
+
+/// A stage keeps to the limits of the grammar, as does each valid module that may be written.
+pub fn stage_keeps()
+    ensures stages { StageKeeps }
+    ensures written { WrittenKeeps }
 {}

@@ -34,7 +34,7 @@ then_there : (a : Option Around) (f : Around → Option Around) → is_there (an
 then_there (Some a) f h = (refl, (a, h))
 then_there None f h = absurd (let z : ⊥ = cc in z)
 
-limited : (n : Nest) (a : Around) → is_there (kept n a) ≡ true → Limited n
+pub limited : (n : Nest) (a : Around) → is_there (kept n a) ≡ true → Limited n
 limited Nothing a h = tt
 limited (Loop line v l u s body rest) a h =
     let w = while_there (text_within (counted a) && (limits.bound_fits l && limits.bound_fits u)) (and_then (kept body (in_loop v l u (counted a))) (λ b. kept rest (with_totals b.totals a))) h in
@@ -92,7 +92,7 @@ plain_are (Start a aa b bb t ta n stride types) =
 plain_are (Wait t at n ty) = one_map at
 plain_are Return = refl
 
-operands_are : (n : Nest) → operands_in_nest n ≡ limits.operands_in n
+pub operands_are : (n : Nest) → operands_in_nest n ≡ limits.operands_in n
 operands_are Nothing = refl
 operands_are (Loop line v l u s body rest) = λ i. bound_are l i + (bound_are u i + (operands_are body i + operands_are rest i))
 operands_are (Branch line set names first has other rest) = λ i. rows_are set.rows i + (operands_are first i + (operands_are other i + operands_are rest i))
