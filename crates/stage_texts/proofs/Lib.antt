@@ -5,3 +5,4 @@ pub mod Law
 pub mod Shape
 pub mod Limits
 pub mod Keeps
+pub mod Written

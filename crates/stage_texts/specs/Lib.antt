@@ -1,3 +1,4 @@
 pub mod Order
 pub mod Shape
 pub mod Law
+pub mod Numbered

@@ -1,10 +1,12 @@
 //! What the module that staging makes of a module of a text has of a text.
 //!
-//! Laws alone: the names of its values are names of the grammar, and subscripts with their dimensions numbered by first appearance
-//! have the order that the grammar asks for. They are parts of the law that the printed text of a stage spells it.
+//! Laws alone: the names of its values are names of the grammar, its body has a text's shape, and it keeps to the limits. So where its
+//! parameters are numbered as the grammar has it, it may be written, and its printed text spells it. Subscripts with their dimensions
+//! numbered by first appearance have the order that the grammar asks for.
 #![tactic(auto)]
 
 ghost use Rattle.stage_texts.specs.Law.{StageKeeps, StageNames, StageShape, WrittenKeeps, WrittenShape};
+ghost use Rattle.stage_texts.specs.Numbered.{StageIsSpelled, StageIsWritten};
 ghost use Rattle.stage_texts.specs.Order.{NormalAppears};
 
 /// The names of a stage's values are names of the grammar.
@@ -27,4 +29,10 @@ pub fn stage_shape()
 pub fn stage_keeps()
     ensures stages { StageKeeps }
     ensures written { WrittenKeeps }
+{}
+
+/// A stage whose parameters are numbered as the grammar has it may be written, and its printed text spells it.
+pub fn stage_is_written()
+    ensures written { StageIsWritten }
+    ensures spelled { StageIsSpelled }
 {}
