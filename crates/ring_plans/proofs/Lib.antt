@@ -1,3 +1,4 @@
 pub mod Within
 pub mod Stay
 pub mod Apart
+pub mod Ends

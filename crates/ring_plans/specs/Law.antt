@@ -1,7 +1,7 @@
 -- What holds of every plan with doubling.
-use Rattle.std.specs.Prelude.{◌≡◌, ◌≤◌, true, false, List, [], ◌∷◌}
+use Rattle.std.specs.Prelude.{◌≡◌, ◌≤◌, Bool, true, false, ◌||◌, List, [], ◌∷◌}
 use Rattle.affine_ast.specs.declared.module.Module.{Module}
-use Rattle.affine_ast.specs.Nest.{nest}
+use Rattle.affine_ast.specs.Nest.{Nest, nest}
 use Rattle.nest_domain.specs.declared.plan.Decision.{Decision}
 use Rattle.nest_domain.specs.declared.plan.Doubling.TheVariants as doubling
 use Rattle.nest_domain.specs.declared.plan.Options.{Options}
@@ -13,7 +13,7 @@ use Rattle.plan_laws.specs.Limits.{keeps_limits, keeps_intervals}
 use Rattle.plan_laws.specs.Plan.{plan, planned_text}
 use Rattle.plan_laws.specs.Sites.{lined}
 use Rattle.ring_plans.specs.Plan.{ringed, ring_plan, ring_text}
-use Rattle.ring_plans.specs.Spots.{one_lies_in}
+use Rattle.ring_plans.specs.Spots.{lies_in, loops_by_end, one_lies_in}
 
 -- where the module keeps to the rule on intervals, so does the text with the placements and their rings; where the capacity holds the
 -- module's own peak, it holds that of this text; and where the module keeps to the limits, so does this text
@@ -49,6 +49,20 @@ abbrev pub NoneHolds : List Spot → Type 0
 NoneHolds [] = Unit {0}
 NoneHolds (l ∷ ls) = (one_lies_in l ls ≡ false) × NoneHolds ls
 
--- a loop gets rings only while no loop in it has some; the list begins with the last one
-abbrev pub RingsHoldNoRings : Type 0
-RingsHoldNoRings = (o : Options) (m : Module) → NoneHolds (ringed o m).loops
+-- of the loops of a text in the order in which they end none lies in an earlier one
+abbrev pub LoopsEndInOrder : Type 0
+LoopsEndInOrder = (n : Nest) → NoneHolds (loops_by_end n)
+
+-- a place lies in one of these loops
+abbrev pub lies_in_one : List Spot → Spot → Bool
+lies_in_one [] s = false
+lies_in_one (t ∷ ts) s = lies_in t s || lies_in_one ts s
+
+-- no two loops of a list lie in one another
+abbrev pub StandApart : List Spot → Type 0
+StandApart [] = Unit {0}
+StandApart (l ∷ ls) = (one_lies_in l ls ≡ false) × (lies_in_one ls l ≡ false) × StandApart ls
+
+-- no loop with rings lies in another one
+abbrev pub RingsStandApart : Type 0
+RingsStandApart = (o : Options) (m : Module) → StandApart (ringed o m).loops

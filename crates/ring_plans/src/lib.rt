@@ -6,7 +6,7 @@
 //! doubling of `plan_laws`, on the three loops of `loop_forms` and on the clash of `dependence`.
 #![tactic(auto)]
 
-ghost use Rattle.ring_plans.specs.Law.{PlacementsStay, PlainPlansStay, RingsHoldNoRings, RingsKeepWithin};
+ghost use Rattle.ring_plans.specs.Law.{LoopsEndInOrder, PlacementsStay, PlainPlansStay, RingsKeepWithin, RingsStandApart};
 
 /// The text with a plan's rings keeps to the rule on intervals, within the capacity and to the limits, each where the module does.
 pub fn rings_keep_within()
@@ -23,7 +23,12 @@ pub fn plain_plans_stay()
     ensures { PlainPlansStay }
 {}
 
-/// A loop gets rings only while no loop in it has some.
-pub fn rings_hold_no_rings()
-    ensures { RingsHoldNoRings }
+/// No loop with rings lies in another one.
+pub fn rings_stand_apart()
+    ensures { RingsStandApart }
+{}
+
+/// Of the loops as they end none lies in an earlier one.
+pub fn loops_end_in_order()
+    ensures { LoopsEndInOrder }
 {}
