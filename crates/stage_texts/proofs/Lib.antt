@@ -6,3 +6,4 @@ pub mod Shape
 pub mod Limits
 pub mod Keeps
 pub mod Written
+pub mod Apart

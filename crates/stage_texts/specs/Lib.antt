@@ -2,3 +2,4 @@ pub mod Order
 pub mod Shape
 pub mod Law
 pub mod Numbered
+pub mod Distinct
