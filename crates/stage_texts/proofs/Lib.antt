@@ -7,3 +7,4 @@ pub mod Limits
 pub mod Keeps
 pub mod Written
 pub mod Apart
+pub mod Orders

@@ -5,7 +5,7 @@
 //! numbered by first appearance have the order that the grammar asks for.
 #![tactic(auto)]
 
-ghost use Rattle.stage_texts.specs.Distinct.{DistinctAreApart, NamedAreDistinct};
+ghost use Rattle.stage_texts.specs.Distinct.{DistinctAreApart, NamedAreDistinct, NormalIsDistinct};
 ghost use Rattle.stage_texts.specs.Law.{StageKeeps, StageNames, StageShape, WrittenKeeps, WrittenShape};
 ghost use Rattle.stage_texts.specs.Numbered.{StageIsSpelled, StageIsWritten};
 ghost use Rattle.stage_texts.specs.Order.{NormalAppears};
@@ -38,8 +38,10 @@ pub fn stage_is_written()
     ensures spelled { StageIsSpelled }
 {}
 
-/// Names of which none stands twice stay so under new names, one for one, and have no text twice where they are a text's.
+/// Names of which none stands twice stay so under new names, one for one, and have no text twice where they are a text's. So do the
+/// operands of dimensions that are numbered by first appearance.
 pub fn names_stay_apart()
     ensures renamed { NamedAreDistinct }
     ensures texts { DistinctAreApart }
+    ensures ordered { NormalIsDistinct }
 {}
