@@ -17,6 +17,8 @@ use Rattle.run_laws.specs.StaysFitting.{with_slow}
 use Rattle.copy_emit.specs.FirstPlan.{Planned, first_plan, first_staged}
 use Rattle.copy_emit.specs.Law.{staged}
 use Rattle.first_path.specs.declared.place.Placement.{Placement}
+use Rattle.first_path.specs.declared.stage.Staged.{Staged}
+use Rattle.first_path.specs.Law.{IsStagedBy}
 use Rattle.first_path.specs.Plan.{planned_of}
 use Rattle.first_path.proofs.Forms.{one_loop}
 use Rattle.first_path.specs.Form.{IsOfFirstForm}
@@ -27,15 +29,15 @@ use Rattle.module_regions.specs.Lines.{regions_text}
 use Rattle.source_parts.specs.Parts.{text_part, image_part}
 use Rattle.affine_driver.specs.declared.command.Command.{Command}
 use Rattle.affine_driver.specs.declared.command.OrderOptions.{OrderOptions}
-use Rattle.affine_driver.specs.declared.command.Command.TheVariants.{Check, Regions, Stage, Plain, Run, Order}
+use Rattle.affine_driver.specs.declared.command.Command.TheVariants.{Check, Regions, Stage, Plain, Run, Order, Both}
 use Rattle.affine_driver.specs.declared.ending.Ending.{Ending}
 use Rattle.affine_driver.specs.declared.ending.Ending.TheVariants as end
 use Rattle.affine_driver.specs.declared.refusal.Refusal.{Refusal}
 use Rattle.affine_driver.specs.declared.refusal.Refusal.TheVariants.{Text, Invalid, Image, Turns, Fault, Unbuilt, Memory}
-use Rattle.affine_driver.specs.Behaviour.{Limited, OfFirstForm, RunsToEnd, Makes, ComesTo, Refuses, Completes}
+use Rattle.affine_driver.specs.Behaviour.{Limited, OfFirstForm, StagedFrom, WithImage, EndsWithin, RunsToEnd, Makes, ComesTo, Refuses, Completes}
 use Rattle.affine_driver.specs.Laws.{IsOpen, IsBuilt, EndingsAreExact, HasOneOutput}
 use Rattle.affine_driver.specs.Outcome.{Outcome, Refused, Complete, Writes, Demands, Gives}
-use Rattle.affine_driver.specs.Output.{report, prompted, order_text, IsStageOutput, IsPlainOutput, IsRunOutput, IsOrderOutput}
+use Rattle.affine_driver.specs.Output.{report, prompted, order_text, IsStageOutput, IsPlainOutput, IsRunOutput, IsBothOutput, IsOrderOutput}
 use Rattle.affine_driver.specs.Reading.{Because}
 use Rattle.affine_driver.proofs.Orders.{same_numbers}
 use Rattle.affine_driver.specs.Refusals.{ending_of, SpellsNone, BreaksRule, BreaksLimits, IsOtherForm, SpellsNoImage, work_limit, IsTooMuch, StopsAt, OrMemory}
@@ -190,11 +192,16 @@ limited input Behind rest = demanded (BreaksLimits input) (λ holds. plain_fault
 of_form : (input : Module) (Behind : Outcome → Type 0) → Once Behind → Once (OfFirstForm input Behind)
 of_form input Behind rest = demanded (IsOtherForm input) (IsOfFirstForm input) (λ looped. Behind) (form_decided input) (λ x. rest)
 
-runs_to_end : ImageLaws → (input : Module) (text : List ℕ) (run : ast.Image → Verdict) (Behind : ast.Image → Outcome → Type 0) → ((memory : ast.Image) → Once (Behind memory)) → Once (RunsToEnd input text run Behind)
-runs_to_end laws input text run Behind rest =
-    demanded (SpellsNoImage text input) (image.Spells text input) _ (image_decided laws text input) (λ memory.
+with_image : ImageLaws → (input : Module) (text : List ℕ) (Behind : ast.Image → Outcome → Type 0) → ((memory : ast.Image) → Once (Behind memory)) → Once (WithImage input text Behind)
+with_image laws input text Behind rest = demanded (SpellsNoImage text input) (image.Spells text input) Behind (image_decided laws text input) rest
+
+ends_within : (input : Module) (run : Verdict) (Behind : Outcome → Type 0) → Once Behind → Once (EndsWithin input run Behind)
+ends_within input run Behind rest =
     demanded (IsTooMuch input) (λ holds. work input ≤ work_limit) _ (work_decided input) (λ within.
-    demanded (StopsAt (run memory)) (λ holds. run memory ≡ verdict.End) (λ ends. Behind memory) (run_decided (run memory)) (λ ends. rest memory)))
+    demanded (StopsAt run) (λ holds. run ≡ verdict.End) (λ ends. Behind) (run_decided run) (λ ends. rest))
+
+runs_to_end : ImageLaws → (input : Module) (text : List ℕ) (run : ast.Image → Verdict) (Behind : ast.Image → Outcome → Type 0) → ((memory : ast.Image) → Once (Behind memory)) → Once (RunsToEnd input text run Behind)
+runs_to_end laws input text run Behind rest = with_image laws input text _ (λ memory. ends_within input (run memory) (Behind memory) (rest memory))
 
 -- ---- One output of each kind
 
@@ -216,6 +223,33 @@ one_staged input output other h k =
     h.text ∙ ap (λ x. report x h.staged.placements ++ spelling h.staged.module) line ∙ ap (λ x. report k.staged.line x ++ spelling h.staged.module) placed
     ∙ ap (λ x. report k.staged.line k.staged.placements ++ spelling x) made ∙ sym k.text
 
+-- one staged module
+same_staged : (input : Module) (x y : Staged) → IsStagedBy input x → IsStagedBy input y → x ≡ y
+same_staged input x y h k =
+    let l : h.looped ≡ k.looped = sym (one_loop input.body h.looped k.looped h.form.body k.form.body) in
+    let line : x.line ≡ y.line = h.line ∙ ap (λ x. x.line) l ∙ sym k.line in
+    let placed : x.placements ≡ y.placements =
+    sym (placements_are x.placements) ∙ ap (map placed_of) (h.placements ∙ ap first_plan l ∙ sym k.placements) ∙ placements_are y.placements in
+    let made : x.module ≡ y.module = h.made ∙ ap (λ x. staged input (first_staged true x) x) l ∙ sym k.made in
+    (λ i. record { «module» = made i; placements = placed i; line = line i })
+
+staged_decided : (input : Module) → Decided (IsOtherForm input) (IsStagedBy input)
+staged_decided input = record {
+  one = λ r s h k. h.1 ∙ sym k.1;
+  same = λ x y h k. same_staged input x y h k;
+  both = λ r x h k. h.0 k.looped k.form;
+}
+
+staged_from : (input : Module) (Behind : Staged → Outcome → Type 0) → ((x : Staged) → Once (Behind x)) → Once (StagedFrom input Behind)
+staged_from input Behind rest = demanded (IsOtherForm input) (IsStagedBy input) Behind (staged_decided input) rest
+
+-- two outputs with one part each, and another part behind it
+same_parts : (a b behind output other : List ℕ) → a ≡ b → output ≡ a ++ behind → other ≡ b ++ behind → output ≡ other
+same_parts a b behind output other e h k = h ∙ ap (λ x. x ++ behind) e ∙ sym k
+
+one_both : (input : Module) (memory : ast.Image) (output other : List ℕ) → IsBothOutput input memory output → IsBothOutput input memory other → output ≡ other
+one_both input memory output other h k = same_parts h.stage k.stage _ output other (one_staged input h.stage k.stage h.is k.is) h.text k.text
+
 -- what is equal to one thing
 same_output : (text output other : List ℕ) → output ≡ text → other ≡ text → output ≡ other
 same_output text output other h k = h ∙ sym k
@@ -234,6 +268,8 @@ makes_once known (Stage options) text input = limited input _ (of_form input _ (
 makes_once known Plain text input = limited input _ (runs_to_end known.images input text (λ memory. verdict_of (plain input memory)) _ (λ memory. given (IsPlainOutput input memory) (same_output _)))
 makes_once known (Run options) text input = runs_to_end known.images input text (λ memory. prompt_verdict (prompted options input memory)) _ (λ memory. given (IsRunOutput input options memory) (same_output _))
 makes_once known (Order options) text input = runs_to_end known.images input text (λ memory. prompt_verdict (prompted options.run input memory)) _ (λ memory. given (IsOrderOutput input options memory) (one_order known.lists input options memory))
+makes_once known (Both options) text input = limited input _ (staged_from input _ (λ staged. with_image known.images input text _ (λ memory.
+    ends_within staged.module (verdict_of (plain input memory)) _ (given (IsBothOutput input memory) (one_both input memory)))))
 makes_once known unbuilt text input = λ a b h k. absurd h
 
 comes_once : Known → (command : Command) (source : List ℕ) → Once (ComesTo command source)

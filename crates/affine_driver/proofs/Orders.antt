@@ -4,7 +4,6 @@ use Rattle.std.specs.Prelude.{◌+◌, ◌++◌, slice_get}
 use Rattle.affine_ast.specs.declared.image.Image.{Image}
 use Rattle.affine_ast.specs.declared.module.Module.{Module}
 use Rattle.bus_model.specs.declared.step.Step.{Step}
-use Rattle.bus_model.specs.declared.step.Verdict.{Verdict}
 use Rattle.bus_model.specs.declared.step.Verdict.TheVariants as verdict
 use Rattle.direct_meaning.specs.Direct.{Outcome, End, Fault, verdict_of, state_of}
 use Rattle.direct_meaning.specs.Memory.{module_actions}
@@ -18,7 +17,7 @@ use Rattle.order_meaning.specs.Listed.{ListsOne}
 use Rattle.order_meaning.specs.Machine.{Machine, after_step}
 use Rattle.order_meaning.specs.Run.{IsMaximal}
 use Rattle.order_machine.specs.declared.orders.Ordered.{Ordered}
-use Rattle.order_machine.specs.Standing.{Setting, after, first_of}
+use Rattle.order_machine.specs.Standing.{Setting, first_of}
 use Rattle.order_machine.specs.Orders.{next_number, total, Chosen, Picks, RunsOrder, setting}
 use Rattle.affine_driver.specs.declared.command.OrderOptions.{OrderOptions}
 use Rattle.affine_driver.specs.Behaviour.{EndsWithin}

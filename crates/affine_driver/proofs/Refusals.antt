@@ -1,5 +1,6 @@
 -- What a source comes to, from what it is made of.
-use Rattle.std.proofs.Common.{◌≡◌, ◌≤◌, ℕ, List, length, None, Result, Ok, Err, refl, sym, inl, inr, arith}
+use Rattle.std.proofs.Common.{◌≡◌, ◌≤◌, ℕ, List, length, None, Result, Ok, Err, refl, sym, ◌∙◌, ap, subst, inl, inr, arith}
+use Rattle.affine_ast.specs.declared.image.Image.{Image}
 use Rattle.affine_ast.specs.declared.module.Module.{Module}
 use Rattle.affine_ast.specs.Validity.{IsValid, first_broken}
 use Rattle.affine_ast.specs.PlainLimits.{plain_fault}
@@ -17,6 +18,7 @@ use Rattle.affine_grammar.specs.Spelling.{Spells}
 use Rattle.mem_image.specs.declared.parse.ImageFault.{ImageFault}
 use Rattle.mem_image.specs.declared.parse.ImageFault.TheVariants as image_fault
 use Rattle.mem_image.specs.Faults.{IsFault}
+use Rattle.mem_image.specs.Images as image
 use Rattle.module_regions.specs.declared.fault.LinesFault.{LinesFault}
 use Rattle.module_regions.specs.declared.fault.LinesFault.TheVariants as lines
 use Rattle.module_regions.specs.Lines.{Answers}
@@ -26,7 +28,7 @@ use Rattle.affine_driver.specs.declared.command.Command.{Command}
 use Rattle.affine_driver.specs.declared.command.Command.TheVariants.{Stage}
 use Rattle.affine_driver.specs.declared.command.StageOptions.{StageOptions}
 use Rattle.affine_driver.specs.declared.refusal.Refusal.{Refusal}
-use Rattle.affine_driver.specs.Behaviour.{Limited, OfFirstForm, Makes, ComesTo}
+use Rattle.affine_driver.specs.Behaviour.{Limited, OfFirstForm, WithImage, Makes, ComesTo}
 use Rattle.affine_driver.specs.Outcome.{Outcome, Refused, Complete, Writes, Gives, Demands, Answered}
 use Rattle.affine_driver.specs.Output.{IsStageOutput}
 use Rattle.affine_driver.specs.Refusals.{OrMemory, SpellsNoImage, IsNotRead, of_parser, of_rules, of_image, of_lines}
@@ -68,6 +70,14 @@ answered (Ok x) bytes_of One Other step h = step (Writes (bytes_of x)) h
 answered (Err refusal) bytes_of One Other step (inl m) = inl m
 answered (Err refusal) bytes_of One Other step (inr h) = inr (step (Refused refusal) h)
 
+-- what a refusal answers
+pub refused : {A : Type 0} (answer : Result A Refusal) (bytes_of : A → List ℕ) (Comes : Outcome → Type 0) (refusal same : Refusal) → answer ≡ Err same → same ≡ refusal → OrMemory (λ r. Comes (Refused r)) refusal → Answered answer bytes_of Comes
+refused answer bytes_of Comes refusal same e s h = subst (λ a. Answered a bytes_of Comes) (sym (e ∙ ap Err s)) h
+
+-- the text of an image spells none
+pub without_image : (input : Module) (text : List ℕ) (Behind : Image → Outcome → Type 0) (refusal : Refusal) → OrMemory (SpellsNoImage text input) refusal → OrMemory (λ r. WithImage input text Behind (Refused r)) refusal
+without_image input text Behind refusal h = fails (SpellsNoImage text input) (image.Spells text input) Behind refusal h
+
 -- why there are no lines of regions
 pub no_lines : {B : Type 0} (input : Module) (depth : ℕ) (bytes_of : B → List ℕ) (Behind : Outcome → Type 0) (fault : LinesFault) (refusal : Refusal) → refusal ≡ of_lines fault → Answers input depth bytes_of (Err fault)
     → OrMemory (λ r. Limited input Behind (Refused r)) refusal
@@ -79,6 +89,13 @@ no_lines input depth bytes_of Behind lines.Memory refusal e h = inl e
 -- what a command makes of the parts of a source, the source comes to
 pub comes_to : (command : Command) (source : List ℕ) (input : Module) (outcome : Outcome) → Spells (text_part source) input → IsValid input → Makes command input (image_part source) outcome → ComesTo command source outcome
 comes_to command source input outcome s v h = inr (input, (s, inr (tt, (v, h))))
+
+-- what is answered for the command with its options and the parts of a source, the source comes to
+pub through : {A : Type 0} (command same : Command) (source text image : List ℕ) (input : Module) (answer : Result A Refusal) (bytes_of : A → List ℕ) → command ≡ same → text ≡ text_part source → image ≡ image_part source
+    → Spells text input → IsValid input → Answered answer bytes_of (Makes same input image) → Answered answer bytes_of (ComesTo command source)
+through command same source text image input answer bytes_of is t m s v h =
+    answered answer bytes_of (Makes same input image) (ComesTo command source)
+    (λ o made. subst (λ x. ComesTo x source o) (sym is) (comes_to same source input o (subst (λ x. Spells x input) t s) v (subst (λ x. Makes same input x o) m made))) h
 
 -- what isn't read is refused under every command
 pub unread : (command : Command) (source text : List ℕ) (refusal : Refusal) → text ≡ text_part source → OrMemory (IsNotRead text) refusal → OrMemory (λ r. ComesTo command source (Refused r)) refusal

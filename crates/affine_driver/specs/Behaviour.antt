@@ -11,16 +11,18 @@ use Rattle.bus_model.specs.declared.step.Verdict.TheVariants as verdict
 use Rattle.direct_meaning.specs.Direct.{plain, verdict_of}
 use Rattle.direct_meaning.specs.Work.{work}
 use Rattle.prompt_meaning.specs.Prompt.{prompt_verdict}
+use Rattle.first_path.specs.declared.stage.Staged.{Staged}
 use Rattle.first_path.specs.Form.{IsOfFirstForm}
+use Rattle.first_path.specs.Law.{IsStagedBy}
 use Rattle.mem_image.specs.Images as image
 use Rattle.module_regions.specs.Lines.{regions_text}
 use Rattle.source_parts.specs.Parts.{text_part, image_part}
 use Rattle.staged_texts.specs.Laws.{SpellsStaged}
 use Rattle.affine_driver.specs.declared.command.Command.{Command}
-use Rattle.affine_driver.specs.declared.command.Command.TheVariants.{Check, Regions, Stage, Plain, Run, Order}
+use Rattle.affine_driver.specs.declared.command.Command.TheVariants.{Check, Regions, Stage, Plain, Run, Order, Both}
 use Rattle.affine_driver.specs.declared.refusal.Refusal.{Refusal}
 use Rattle.affine_driver.specs.Outcome.{Outcome, Refused, Complete, Writes, Demands, Gives}
-use Rattle.affine_driver.specs.Output.{IsStageOutput, IsPlainOutput, IsRunOutput, IsOrderOutput, prompted}
+use Rattle.affine_driver.specs.Output.{IsStageOutput, IsPlainOutput, IsRunOutput, IsBothOutput, IsOrderOutput, prompted}
 use Rattle.affine_driver.specs.Refusals.{SpellsNone, BreaksRule, BreaksLimits, IsOtherForm, SpellsNoImage, work_limit, IsTooMuch, StopsAt}
 
 -- ---- Demands
@@ -37,16 +39,24 @@ Limited input Behind = Demands (BreaksLimits input) (λ (holds : Unit {0}). plai
 abbrev pub OfFirstForm : Module → (Outcome → Type 0) → Outcome → Type 0
 OfFirstForm input Behind = Demands (IsOtherForm input) (IsOfFirstForm input) (λ looped. Behind)
 
+-- a module of the first form, with what is staged of it
+abbrev pub StagedFrom : Module → (Staged → Outcome → Type 0) → Outcome → Type 0
+StagedFrom input Behind = Demands (IsOtherForm input) (IsStagedBy input) Behind
+
 -- the module's work is within the limit, and a run of this verdict comes to its end
 abbrev pub EndsWithin : Module → Verdict → (Outcome → Type 0) → Outcome → Type 0
 EndsWithin input run Behind =
     Demands (IsTooMuch input) (λ (holds : Unit {0}). work input ≤ work_limit) (λ within.
     Demands (StopsAt run) (λ (holds : Unit {0}). run ≡ verdict.End) (λ ends. Behind))
 
+-- the text spells an image, whose memory fits the module
+abbrev pub WithImage : Module → List ℕ → (Image → Outcome → Type 0) → Outcome → Type 0
+WithImage input text Behind = Demands (SpellsNoImage text input) (image.Spells text input) Behind
+
 -- a run that ends: the text spells an image, whose memory fits the module, the module's work is within the limit, and the run from this
 -- memory, of which the verdict is given, comes to its end
 abbrev pub RunsToEnd : Module → List ℕ → (Image → Verdict) → (Image → Outcome → Type 0) → Outcome → Type 0
-RunsToEnd input text run Behind = Demands (SpellsNoImage text input) (image.Spells text input) (λ memory. EndsWithin input (run memory) (Behind memory))
+RunsToEnd input text run Behind = WithImage input text (λ memory. EndsWithin input (run memory) (Behind memory))
 
 -- ---- Commands
 
@@ -54,7 +64,8 @@ RunsToEnd input text run Behind = Demands (SpellsNoImage text input) (image.Spel
 -- order in which it is asked for, and what it writes. `check` writes the module's printed spelling, `regions` the lines of its regions,
 -- `stage` its output, which spells a valid module that runs as the module does, `plain` the printed image of the memory that the direct
 -- meaning leaves, `run` that of the memory that the prompt meaning leaves, `order` the same with the trace and the number of steps of the
--- run that the pick names.
+-- run that the pick names. `both` writes what `stage` does and then, behind a line `---`, what `plain` does: it is the staged module that
+-- is run, within the limit of work.
 abbrev pub Makes : Command → Module → List ℕ → Outcome → Type 0
 Makes Check input text outcome = Gives (λ output. output ≡ spelling input) outcome
 Makes (Regions options) input text outcome = Limited input (Gives (λ output. output ≡ regions_text input options.depth)) outcome
@@ -62,6 +73,8 @@ Makes (Stage options) input text outcome = Limited input (OfFirstForm input (Giv
 Makes Plain input text outcome = Limited input (RunsToEnd input text (λ memory. verdict_of (plain input memory)) (λ memory. Gives (IsPlainOutput input memory))) outcome
 Makes (Run options) input text outcome = RunsToEnd input text (λ memory. prompt_verdict (prompted options input memory)) (λ memory. Gives (IsRunOutput input options memory)) outcome
 Makes (Order options) input text outcome = RunsToEnd input text (λ memory. prompt_verdict (prompted options.run input memory)) (λ memory. Gives (IsOrderOutput input options memory)) outcome
+Makes (Both options) input text outcome =
+    Limited input (StagedFrom input (λ staged. WithImage input text (λ memory. EndsWithin staged.module (verdict_of (plain input memory)) (Gives (IsBothOutput input memory))))) outcome
 Makes unbuilt input text outcome = ⊥
 
 -- what a source comes to under a command: its text spells a valid module, of which, with its image, the command makes this

@@ -1,11 +1,12 @@
 -- What a command writes.
-use Rattle.std.specs.Prelude.{◌≡◌, ℕ, ◌+◌, ◌*◌, ◌≤◌, Bool, true, false, List, ◌++◌, nat_eq, if◌then◌else◌, codes}
+use Rattle.std.specs.Prelude.{◌≡◌, ℕ, ◌+◌, ◌*◌, ◌≤◌, Bool, true, false, List, ◌++◌, length, nat_eq, if◌then◌else◌, codes}
 use Rattle.std.specs.Fmt.{decimal}
 use Rattle.std.specs.List.{flat_map}
 use Rattle.affine_ast.specs.declared.image.Image.{Image}
 use Rattle.affine_ast.specs.declared.module.Module.{Module}
 use Rattle.affine_ast.specs.declared.name.Name.{Name}
 use Rattle.affine_ast.specs.Spelling.{name_text, spelling}
+use Rattle.affine_grammar.specs.Spelling.{Spells}
 use Rattle.first_path.specs.declared.place.Placement.{Placement}
 use Rattle.first_path.specs.declared.stage.Staged.{Staged}
 use Rattle.first_path.specs.Law.{IsStagedBy, RunsAs}
@@ -17,8 +18,10 @@ use Rattle.order_machine.specs.Orders.{RunsOrder, setting}
 use Rattle.prompt_meaning.specs.Device.{Device}
 use Rattle.prompt_meaning.specs.Prompt.{prompt, prompt_slow}
 use Rattle.run_laws.specs.StaysFitting.{with_slow}
+use Rattle.staged_texts.specs.Laws.{SpellsStaged}
 use Rattle.affine_driver.specs.declared.command.OrderOptions.{OrderOptions}
 use Rattle.affine_driver.specs.declared.command.RunOptions.{RunOptions}
+use Rattle.affine_driver.specs.declared.limits.TheConstants.{SOURCE_LIMIT}
 
 -- the block, which is the first and only one, its line and the memref
 unfoldable pub subject_text : ℕ → Name → List ℕ
@@ -80,3 +83,25 @@ pub record IsOrderOutput (input : Module) (options : OrderOptions) (memory : Ima
   -- so many steps, whatever the pick and the number of engines
   pub count : ordered.steps ≡ (state_of (prompted options.run input memory)).actions + (state_of (prompted options.run input memory)).engine_steps
   pub text : output ≡ image.printed input (with_slow memory (prompt_slow (prompted options.run input memory))) ++ order_text ordered.trace ordered.steps
+
+-- what is staged of a module of the first form: by the template, valid, and it runs as that module does
+pub record IsStaged (input : Module) (staged : Staged) : Type 0 where
+  pub by : IsStagedBy input staged
+  pub valid : IsValid staged.module
+  pub runs : RunsAs input staged.module
+  -- a line is a number of 32 bits
+  pub line : staged.line ≤ 4294967295
+
+-- the module was read: a text of no more bytes than a source has spells it
+pub record IsRead (input : Module) : Type 0 where
+  pub text : List ℕ
+  pub spells : Spells text input
+  pub short : length text ≤ SOURCE_LIMIT
+
+-- what `both` writes of a module that is run from a memory: what `stage` writes of it, a line `---`, and the printed image of the memory
+-- that the direct meaning of the module leaves
+pub record IsBothOutput (input : Module) (memory : Image) (output : List ℕ) : Type 0 where
+  pub stage : List ℕ
+  pub is : IsStageOutput input stage
+  pub spells : SpellsStaged input stage
+  pub text : output ≡ stage ++ (codes "---\n" ++ image.printed input (with_slow memory (state_of (plain input memory)).slow))

@@ -71,7 +71,7 @@ options_of first.Both =
 options_of first.Sample = alone (codes "number") NUMBER SAMPLE_NUMBER ∷ []
 
 -- the ranges of numbers, both ends counted, and their defaults; the commands and options that the program has, and the options of
--- `stage` that it hasn't; and the most bytes of a source
+-- `stage` and `both` that it hasn't; and the most bytes of a source
 pub record IsAsWritten : Type 0 where
   pub depth : DEPTH ≡ Number (pos 0) (pos 7) (pos 0)
   pub buffers : BUFFERS ≡ Number (pos 2) (pos 8) (pos 2)
@@ -85,6 +85,7 @@ pub record IsAsWritten : Type 0 where
   pub stage : standing_of first.Stage ≡ Built
   pub plain : standing_of first.Plain ≡ Built
   pub run : standing_of first.Run ≡ Built
+  pub both : standing_of first.Both ≡ Built
   pub order : standing_of first.Order ≡ Built
   pub regions_depth : REGIONS_DEPTH ≡ Built
   pub run_capacity : RUN_CAPACITY ≡ Built
@@ -94,9 +95,16 @@ pub record IsAsWritten : Type 0 where
   pub order_filler : ORDER_FILLER ≡ Built
   pub order_engines : ORDER_ENGINES ≡ Built
   pub order_pick : ORDER_PICK ≡ Built
+  pub both_filler : BOTH_FILLER ≡ Built
+  pub both_engines : BOTH_ENGINES ≡ Built
   pub stage_depth : STAGE_DEPTH ≡ Unbuilt
   pub stage_dma : STAGE_DMA ≡ Unbuilt
   pub stage_double : STAGE_DOUBLE ≡ Unbuilt
   pub stage_buffers : STAGE_BUFFERS ≡ Unbuilt
   pub stage_capacity : STAGE_CAPACITY ≡ Unbuilt
+  pub both_depth : BOTH_DEPTH ≡ Unbuilt
+  pub both_dma : BOTH_DMA ≡ Unbuilt
+  pub both_double : BOTH_DOUBLE ≡ Unbuilt
+  pub both_buffers : BOTH_BUFFERS ≡ Unbuilt
+  pub both_capacity : BOTH_CAPACITY ≡ Unbuilt
   pub source : SOURCE_LIMIT ≡ 4194304

@@ -7,6 +7,7 @@
 #![tactic(auto)]
 
 mod answer;
+mod both;
 mod bytes;
 mod command;
 mod demands;

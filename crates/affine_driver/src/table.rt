@@ -43,7 +43,7 @@ pub const ORDER_ENGINES: Standing = Built;
 
 pub const ORDER_PICK: Standing = Built;
 
-pub const BOTH: Standing = Unbuilt;
+pub const BOTH: Standing = Built;
 
 pub const BOTH_DEPTH: Standing = Unbuilt;
 
@@ -55,9 +55,9 @@ pub const BOTH_BUFFERS: Standing = Unbuilt;
 
 pub const BOTH_CAPACITY: Standing = Unbuilt;
 
-pub const BOTH_FILLER: Standing = Unbuilt;
+pub const BOTH_FILLER: Standing = Built;
 
-pub const BOTH_ENGINES: Standing = Unbuilt;
+pub const BOTH_ENGINES: Standing = Built;
 
 pub const SAMPLE: Standing = Unbuilt;
 

@@ -5,6 +5,7 @@ ghost use Rattle.affine_driver.specs.Command.{IsAllowed, runs_threads};
 ghost use Rattle.affine_driver.specs.Outcome.{Answered};
 
 use crate::answer::read;
+use crate::both::both_output;
 use crate::command::Command;
 use crate::limits::SOURCE_LIMIT;
 use crate::refusal::Refusal;
@@ -16,7 +17,7 @@ use std::sync::Wait;
 use std::thread::Threads;
 
 /// What a command that runs threads writes of a source, or the refusal that it comes to.
-#[tactic(auto, using(crate::proofs::Refusals::unread))]
+#[tactic(auto, using(crate::proofs::Originals::is_read, crate::proofs::Refusals::unread))]
 pub(crate) fn answer_by_threads<R: Threads + Wait + Sync, G: Gate + Sync>(
     alloc: Global,
     rt: &R,
@@ -33,12 +34,12 @@ pub(crate) fn answer_by_threads<R: Threads + Wait + Sync, G: Gate + Sync>(
     let verified = read(alloc, parts.text)?;
     match command {
         Command::Run(options) => run_output(alloc, rt, gate, options, &verified, parts.image),
+        Command::Both(options) => both_output(alloc, rt, gate, options, &verified, parts.image),
         Command::Check => unreachable!(),
         Command::Regions(_) => unreachable!(),
         Command::Stage(_) => unreachable!(),
         Command::Plain => unreachable!(),
         Command::Order(_) => unreachable!(),
-        Command::Both(_) => unreachable!(),
         Command::Sample(_) => unreachable!(),
     }
 }
