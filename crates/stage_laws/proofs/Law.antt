@@ -1,6 +1,7 @@
 -- The law, from those of the plan, of subscripts and of numbers.
 use Rattle.std.proofs.Common.{◌≡◌, sym, ◌∙◌, subst}
 use Rattle.affine_ast.specs.declared.image.Image.{Image}
+use Rattle.affine_ast.specs.declared.module.Module.{Module}
 use Rattle.bus_model.specs.declared.step.FaultKind.{FaultKind}
 use Rattle.bus_model.specs.declared.step.Verdict.TheVariants as verdict
 use Rattle.direct_meaning.specs.Direct.{Outcome, State, End, Fault, plain}
@@ -29,15 +30,16 @@ agrees_with (Fault k s) (Fault j y) (Fault i z) h v m = h ∙ sym (same_kind i j
 pub stage_runs : StageRuns
 stage_runs o m q valid v13 written is =
     let p = plan_runs o m is.placed valid v13 written is.is_placed in
-    let n = normal_is_the_same is.placed is.ordered p.valid is.is_ordered in
+    let ordered : Module = record is.ordered { name = m.name } in
+    let n = normal_is_the_same is.placed ordered p.valid (record { arguments = is.is_ordered.arguments; body = is.is_ordered.body }) in
     let args = is.is_ordered.arguments ∙ is.is_placed.arguments in
-    let fits : (memory : Image) → Fits m memory → Fits is.ordered memory = λ memory f. record { fits = subst (λ a. FitsArgs a memory.memrefs memory.symbols) (sym args) f.fits } in
+    let fits : (memory : Image) → Fits m memory → Fits ordered memory = λ memory f. record { fits = subst (λ a. FitsArgs a memory.memrefs memory.symbols) (sym args) f.fits } in
     record {
-      valid = numbered_valid is.ordered q is.is_numbered n.valid;
-      fits = λ memory f. numbered_fits is.ordered q is.is_numbered memory (fits memory f);
+      valid = numbered_valid ordered q is.is_numbered n.valid;
+      fits = λ memory f. numbered_fits ordered q is.is_numbered memory (fits memory f);
       runs = λ memory f filler.
-          let r = numbered_runs is.ordered q is.is_numbered n.valid memory (fits memory f) filler o.capacity in
-          agrees_with (plain m memory) (prompt is.ordered memory filler o.capacity) (prompt q memory filler o.capacity) (subst (Agrees (plain m memory)) (sym (n.runs memory filler o.capacity)) (p.runs memory f filler)) r.0 r.1;
+          let r = numbered_runs ordered q is.is_numbered n.valid memory (fits memory f) filler o.capacity in
+          agrees_with (plain m memory) (prompt ordered memory filler o.capacity) (prompt q memory filler o.capacity) (subst (Agrees (plain m memory)) (sym (n.runs memory filler o.capacity)) (p.runs memory f filler)) r.0 r.1;
     }
 
 pub texts_stage : TextsStage

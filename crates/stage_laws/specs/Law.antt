@@ -14,14 +14,14 @@ use Rattle.normal_texts.specs.Texts.{IsNormal}
 use Rattle.numbered_names.specs.Numbers.{IsNumbered}
 use Rattle.plan_theorem.specs.Law.{IsWritten, IsStagedModule}
 
--- the module with the placements of its plan, then with its subscripts as the grammar reads them, then with the names of templates
--- numbered
+-- the module with the placements of its plan, then with its subscripts as the grammar reads them, then, under its own name, with the
+-- names of templates numbered
 pub record IsStageOf (o : Options) (m q : Module) : Type 0 where
   pub placed : Module
   pub ordered : Module
   pub is_placed : IsStagedModule o m placed
   pub is_ordered : IsNormal placed ordered
-  pub is_numbered : IsNumbered ordered q
+  pub is_numbered : IsNumbered (record ordered { name = m.name }) q
 
 -- each module has one, whatever the options
 pub record Stage (o : Options) (m : Module) : Type 0 where

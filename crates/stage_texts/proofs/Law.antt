@@ -95,10 +95,11 @@ stage_names o m q valid v13 text w is =
     let defines : AllFine (defined (nest is.ordered.body)) = subst AllFine (sym (ap defined body ∙ defined_normal (staged_all steps (lined (nest m.body))))) (placed_fine steps (lined (nest m.body)) (steps_made o m valid text) own) in
     let names : AllFine (names_of is.ordered.args) = all_fine _ (subst (λ args. AllWritten (names_of args)) (sym args) (arguments_written m.args f.args)) in
     let p = plan_runs o m is.placed valid v13 text is.is_placed in
-    let n = normal_is_the_same is.placed is.ordered p.valid is.is_ordered in
+    let ordered : Module = record is.ordered { name = m.name } in
+    let n = normal_is_the_same is.placed ordered p.valid (record { arguments = is.is_ordered.arguments; body = is.is_ordered.body }) in
     let k = is.is_numbered.underscore_count in
     let change = numbered_name k (value_names is.ordered) in
     subst AllWritten
     (map-append change (names_of is.ordered.args) (defined (nest is.ordered.body))
     ∙ sym ((λ i. names_of (is.is_numbered.args i) ++ defined (is.is_numbered.body i)) ∙ (λ i. args_named change is.ordered.args i ++ defined_named change (nest is.ordered.body) i)))
-    (all_numbered k (value_names is.ordered) (few_names is.ordered n.valid) (value_names is.ordered) (fine_join (names_of is.ordered.args) (defined (nest is.ordered.body)) names defines))
+    (all_numbered k (value_names is.ordered) (few_names ordered n.valid) (value_names is.ordered) (fine_join (names_of is.ordered.args) (defined (nest is.ordered.body)) names defines))

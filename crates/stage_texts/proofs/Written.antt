@@ -56,13 +56,13 @@ arguments_fit k names [] h = tt
 arguments_fit k names (arg ∷ args) h =
     (record { name = subst (λ t. IsWritten (if t then number_of k names arg.name else arg.name)) (sym h.0.name.made) h.0.name; kind = h.0.kind }, arguments_fit k names args h.1)
 
-stage_formed : (o : Options) (m q : Module) → AllWritten (value_names q) → MayBeWritten m → IsStageOf o m q → q.name ≡ m.name → AreNumbered (nest q.body) → IsFormed q
-stage_formed o m q names w is named order =
+stage_formed : (o : Options) (m q : Module) → AllWritten (value_names q) → MayBeWritten m → IsStageOf o m q → AreNumbered (nest q.body) → IsFormed q
+stage_formed o m q names w is order =
     let shape = stage_shape o m q (written_shape m w) is in
     let args = is.is_ordered.arguments ∙ is.is_placed.arguments in
     let end = Does shape.line Return Nothing in
     record {
-      name = subst IsId (sym named) w.name;
+      name = subst IsId (sym is.is_numbered.name) w.name;
       args = subst ArgumentsFit (sym (is.is_numbered.args ∙ ap (map (numbered_arg (numbered_name is.is_numbered.underscore_count (value_names is.ordered)))) args)) (arguments_fit is.is_numbered.underscore_count (value_names is.ordered) m.args w.args);
       stmts = shape.stmts;
       line = shape.line;
@@ -72,9 +72,9 @@ stage_formed o m q names w is named order =
     }
 
 pub stage_written : StageIsWritten
-stage_written o m q valid v13 text w is named order =
-    valid_written q (stage_runs o m q valid v13 text is).valid (stage_keeps o m q valid v13 text w is) (stage_formed o m q (stage_names o m q valid v13 text w is) w is named order)
+stage_written o m q valid v13 text w is order =
+    valid_written q (stage_runs o m q valid v13 text is).valid (stage_keeps o m q valid v13 text w is) (stage_formed o m q (stage_names o m q valid v13 text w is) w is order)
 
 pub stage_spelled : StageIsSpelled
-stage_spelled o m q valid v13 text w is named order comments lines =
-    written_spelled q (stage_runs o m q valid v13 text is).valid (stage_keeps o m q valid v13 text w is) (stage_formed o m q (stage_names o m q valid v13 text w is) w is named order) comments lines
+stage_spelled o m q valid v13 text w is order comments lines =
+    written_spelled q (stage_runs o m q valid v13 text is).valid (stage_keeps o m q valid v13 text w is) (stage_formed o m q (stage_names o m q valid v13 text w is) w is order) comments lines

@@ -35,12 +35,12 @@ NumberedBranch set names = AreFew set.dims set.syms
 abbrev pub AreNumbered : Nest → Type 0
 AreNumbered = Each NumberedPlain NumberedLoop NumberedBranch
 
--- of a valid module that may be written and meets V13: its stage, of the module's name, may be written where its parameters are numbered so
+-- of a valid module that may be written and meets V13: its stage may be written where its parameters are numbered so
 abbrev pub StageIsWritten : Type 0
-StageIsWritten = (o : Options) (m q : Module) → IsValid m → plain_fault m ≡ None → IsWritten m → MayBeWritten m → IsStageOf o m q → q.name ≡ m.name
+StageIsWritten = (o : Options) (m q : Module) → IsValid m → plain_fault m ≡ None → IsWritten m → MayBeWritten m → IsStageOf o m q
     → AreNumbered (nest q.body) → MayBeWritten q
 
 -- so its printed text spells it, but for lines
 abbrev pub StageIsSpelled : Type 0
-StageIsSpelled = (o : Options) (m q : Module) → IsValid m → plain_fault m ≡ None → IsWritten m → MayBeWritten m → IsStageOf o m q → q.name ≡ m.name
+StageIsSpelled = (o : Options) (m q : Module) → IsValid m → plain_fault m ≡ None → IsWritten m → MayBeWritten m → IsStageOf o m q
     → AreNumbered (nest q.body) → (comments : List (List ℕ)) → All AreOnOneLine comments → SpellsAgain q (comment_lines comments ++ spelling q)
