@@ -12,7 +12,7 @@ use Rattle.bus_model.specs.declared.step.Verdict.{Verdict}
 use Rattle.bus_model.specs.declared.step.Verdict.TheVariants as verdict
 use Rattle.direct_meaning.specs.Direct.{plain, verdict_of}
 use Rattle.direct_meaning.specs.Work.{work}
-use Rattle.prompt_meaning.specs.Prompt.{prompt_verdict, prompt_slow}
+use Rattle.prompt_semantics.specs.Prompt.{prompt_verdict, prompt_slow}
 use Rattle.run_laws.specs.StaysFitting.{with_slow}
 use Rattle.copy_emit.specs.FirstPlan.{Planned, first_plan, first_staged}
 use Rattle.copy_emit.specs.Law.{staged}

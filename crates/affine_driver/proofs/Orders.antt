@@ -8,8 +8,8 @@ use Rattle.bus_model.specs.declared.step.Verdict.TheVariants as verdict
 use Rattle.direct_meaning.specs.Direct.{Outcome, End, Fault, verdict_of, state_of}
 use Rattle.direct_meaning.specs.Memory.{module_actions}
 use Rattle.direct_meaning.specs.Work.{work}
-use Rattle.prompt_meaning.specs.Device.{Device}
-use Rattle.prompt_meaning.specs.Prompt.{prompt, prompt_verdict, prompt_slow}
+use Rattle.prompt_semantics.specs.Device.{Device}
+use Rattle.prompt_semantics.specs.Prompt.{prompt, prompt_verdict, prompt_slow}
 use Rattle.run_laws.specs.StaysFitting.{with_slow}
 use Rattle.mem_image.specs.Images as image
 use Rattle.order_meaning.specs.Law.{OrdersAgree}

@@ -10,7 +10,7 @@ use Rattle.bus_model.specs.declared.step.Verdict.{Verdict}
 use Rattle.bus_model.specs.declared.step.Verdict.TheVariants as verdict
 use Rattle.direct_meaning.specs.Direct.{plain, verdict_of}
 use Rattle.direct_meaning.specs.Work.{work}
-use Rattle.prompt_meaning.specs.Prompt.{prompt_verdict}
+use Rattle.prompt_semantics.specs.Prompt.{prompt_verdict}
 use Rattle.first_path.specs.declared.stage.Staged.{Staged}
 use Rattle.first_path.specs.Form.{IsOfFirstForm}
 use Rattle.first_path.specs.Law.{IsStagedBy}

@@ -15,8 +15,8 @@ use Rattle.direct_meaning.specs.Direct.{Outcome, plain, state_of}
 use Rattle.mem_image.specs.Images as image
 use Rattle.order_machine.specs.declared.orders.Ordered.{Ordered}
 use Rattle.order_machine.specs.Orders.{RunsOrder, setting}
-use Rattle.prompt_meaning.specs.Device.{Device}
-use Rattle.prompt_meaning.specs.Prompt.{prompt, prompt_slow}
+use Rattle.prompt_semantics.specs.Device.{Device}
+use Rattle.prompt_semantics.specs.Prompt.{prompt, prompt_slow}
 use Rattle.run_laws.specs.StaysFitting.{with_slow}
 use Rattle.staged_texts.specs.Laws.{SpellsStaged}
 use Rattle.affine_driver.specs.declared.command.OrderOptions.{OrderOptions}

@@ -2,7 +2,7 @@
 ghost use Rattle.std.specs.Prelude.{◌≡◌, ◌++◌, ◌≤◌, OnOk, IfOk, length};
 ghost use Rattle.direct_meaning.specs.Memory.{Fits};
 ghost use Rattle.mem_image.specs.Images as image;
-ghost use Rattle.prompt_meaning.specs.Prompt.{prompt_verdict};
+ghost use Rattle.prompt_semantics.specs.Prompt.{prompt_verdict};
 ghost use Rattle.affine_driver.specs.declared.command.Command.TheVariants.{Order};
 ghost use Rattle.affine_driver.specs.Behaviour.{EndsWithin, Makes};
 ghost use Rattle.affine_driver.specs.Command.{IsAllowed};

@@ -1,7 +1,7 @@
 // The command `run`.
 ghost use Rattle.std.specs.Prelude.{◌≡◌, ◌≤◌, IfOk, length};
 ghost use Rattle.direct_meaning.specs.Memory.{Fits};
-ghost use Rattle.prompt_meaning.specs.Prompt.{prompt_verdict};
+ghost use Rattle.prompt_semantics.specs.Prompt.{prompt_verdict};
 ghost use Rattle.overlap_runner.specs.Preparation.{RunsPromptly};
 ghost use Rattle.affine_driver.specs.declared.command.Command.TheVariants.{Run};
 ghost use Rattle.affine_driver.specs.Behaviour.{EndsWithin, Makes};

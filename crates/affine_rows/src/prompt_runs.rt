@@ -6,7 +6,7 @@ use affine_verify::verify;
 use bus_model::{FaultKind, Verdict};
 use mem_image::{image_texts_are_exact, parse_image, print_image};
 use nest_meaning::work;
-use prompt_run::{Prompt, run_prompt};
+use prompt_meaning::{Prompt, run_prompt};
 use source_parts::split;
 use std::alloc::Global;
 use std::test::Fail;

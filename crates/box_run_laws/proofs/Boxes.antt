@@ -6,7 +6,7 @@ use Rattle.std.proofs.lemmas.Bool.{eqb-true, eqb-false, ne_eqb}
 use Rattle.affine_ast.specs.declared.name.Name.{Name}
 use Rattle.bus_model.specs.declared.transfer.Transfer.{Transfer}
 use Rattle.bus_model.specs.Places.{slow_place}
-use Rattle.prompt_meaning.specs.Device.{Device, is_away}
+use Rattle.prompt_semantics.specs.Device.{Device, is_away}
 use Rattle.boxes.specs.Every.{Every}
 use Rattle.box_run_laws.specs.Layouts.{Numbering, renumbered, Cell, Copy, Layout, Mixed}
 use Rattle.box_run_laws.specs.Owned.{IsClear, IsCopied, Sound, Related}

@@ -9,7 +9,7 @@ use Rattle.direct_meaning.specs.Actions.{half_cells}
 use Rattle.direct_meaning.specs.Action.{Action, Allocates, Releases}
 use Rattle.direct_meaning.specs.Direct.{Outcome, End, then_do, folded}
 use Rattle.direct_meaning.proofs.Laws.{folded-append, folded-cons, folded-nil}
-use Rattle.prompt_meaning.specs.Device.{Device, allocated, released, has_away}
+use Rattle.prompt_semantics.specs.Device.{Device, allocated, released, has_away}
 use Rattle.box_run_laws.specs.Roomy.{roomy_step}
 use Rattle.box_run_laws.specs.Layouts.{Numbering, Renumbers}
 use Rattle.box_run_laws.specs.Owned.{Related}

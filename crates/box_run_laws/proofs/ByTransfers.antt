@@ -15,9 +15,9 @@ use Rattle.direct_meaning.specs.Actions.{half_cells}
 use Rattle.direct_meaning.specs.Action.{Action, Allocates, Releases, AllocatesTags, ReleasesTags, Starts, Waits}
 use Rattle.direct_meaning.specs.Direct.{Outcome, End, Fault, then_do, folded}
 use Rattle.direct_meaning.proofs.Laws.{folded-append, folded-cons, folded-nil}
-use Rattle.prompt_meaning.specs.Device.{Device, put_half, allocated, released, is_away, has_away, is_started, has_started, start_races, started, record_of, without}
-use Rattle.prompt_meaning.proofs.Laws.{half_same, half_other}
-use Rattle.prompt_meaning.specs.Prompt.{refused, wait_on, acts}
+use Rattle.prompt_semantics.specs.Device.{Device, put_half, allocated, released, is_away, has_away, is_started, has_started, start_races, started, record_of, without}
+use Rattle.prompt_semantics.proofs.Laws.{half_same, half_other}
+use Rattle.prompt_semantics.specs.Prompt.{refused, wait_on, acts}
 use Rattle.box_run_laws.specs.Roomy.{roomy, roomy_step}
 use Rattle.boxes.specs.Every.{Every}
 use Rattle.box_run_laws.specs.Layouts.{Numbering, Renumbers, renumbered, Mixed}

@@ -10,9 +10,9 @@ use Rattle.affine_ast.proofs.Names.{same_name-refl, put-same, put-other}
 use Rattle.bus_model.specs.declared.step.FaultKind.TheVariants.{Touched, Race}
 use Rattle.direct_meaning.specs.Action.{Slow, Fast, Register, Action, Loads, Stores}
 use Rattle.direct_meaning.specs.Direct.{Outcome, End, then_do, folded, keep, write, read}
-use Rattle.prompt_meaning.specs.Device.{Device, put_half, is_away, load_races, store_races}
-use Rattle.prompt_meaning.proofs.Laws.{half_same, half_other}
-use Rattle.prompt_meaning.specs.Prompt.{refused, acts}
+use Rattle.prompt_semantics.specs.Device.{Device, put_half, is_away, load_races, store_races}
+use Rattle.prompt_semantics.proofs.Laws.{half_same, half_other}
+use Rattle.prompt_semantics.specs.Prompt.{refused, acts}
 use Rattle.box_run_laws.specs.Roomy.{roomy, roomy_step}
 use Rattle.box_run_laws.specs.Templates.{pairs}
 

@@ -7,8 +7,8 @@ use Rattle.bus_model.specs.declared.step.FaultKind.TheVariants.{Race}
 use Rattle.direct_meaning.specs.Action.{Home, SlowMemref, FastMemref, TagMemref, Place, Slow, Fast, Outside, Action, Known, Sets, Loads, Stores, RawLoads, RawStores, Operates, Converts, Allocates, Releases, AllocatesTags, ReleasesTags, Starts, Waits, Faults, Returns}
 use Rattle.direct_meaning.specs.Static.{cell_in, slow_at, place_at}
 use Rattle.direct_meaning.specs.Direct.{Outcome, End, Fault, folded, State, keep, write, read, raw_place, direct_load, direct_store, keep_result, direct_step}
-use Rattle.prompt_meaning.specs.Device.{Device, load_races, store_races}
-use Rattle.prompt_meaning.specs.Prompt.{carried, refused, prompt_load, prompt_store, acts}
+use Rattle.prompt_semantics.specs.Device.{Device, load_races, store_races}
+use Rattle.prompt_semantics.specs.Prompt.{carried, refused, prompt_load, prompt_store, acts}
 use Rattle.box_run_laws.specs.Roomy.{roomy, roomy_step}
 use Rattle.boxes.specs.Every.{Every}
 use Rattle.box_run_laws.specs.Plain.{NotFast, NotFastHome, IsPlain}

@@ -14,9 +14,9 @@ use Rattle.direct_meaning.specs.Static.{element_bits}
 use Rattle.direct_meaning.specs.Actions.{half_cells}
 use Rattle.direct_meaning.specs.Action.{Action, Allocates, Releases}
 use Rattle.direct_meaning.specs.Direct.{Outcome, End, then_do}
-use Rattle.prompt_meaning.specs.Device.{Device, fresh_half, allocated, released, is_away, has_away, load_races, store_races}
-use Rattle.prompt_meaning.specs.Prompt.{refused, acts}
-use Rattle.prompt_meaning.proofs.Laws.{halves_same, halves_other}
+use Rattle.prompt_semantics.specs.Device.{Device, fresh_half, allocated, released, is_away, has_away, load_races, store_races}
+use Rattle.prompt_semantics.specs.Prompt.{refused, acts}
+use Rattle.prompt_semantics.proofs.Laws.{halves_same, halves_other}
 use Rattle.box_run_laws.specs.Roomy.{roomy, roomy_step}
 use Rattle.boxes.specs.Every.{Every}
 use Rattle.box_run_laws.specs.Layouts.{Numbering, Renumbers, renumbered, Mixed}

@@ -5,7 +5,7 @@ use Rattle.affine_ast.specs.declared.image.Image.{Image}
 use Rattle.affine_ast.specs.declared.types.Element.TheVariants.{I32}
 use Rattle.direct_meaning.specs.Action.{Slow, Register, Action, Loads, Stores}
 use Rattle.direct_meaning.specs.Direct.{folded, first_state}
-use Rattle.prompt_meaning.specs.Prompt.{first_device}
+use Rattle.prompt_semantics.specs.Prompt.{first_device}
 use Rattle.boxes.specs.Boxes.{Side}
 use Rattle.box_run_laws.specs.Roomy.{roomy_step}
 use Rattle.box_run_laws.specs.Layouts.{Numbering, Renumbers}

@@ -3,7 +3,7 @@ use Rattle.std.proofs.Common.{◌≡◌, inl, inr, ℕ, List, [], ◌∷◌, ◌
 use Rattle.std.specs.Prelude.{◌||◌, Some, nat_eq, if◌then◌else◌}
 use Rattle.std.specs.List.{list_any}
 use Rattle.bus_model.specs.declared.transfer.Transfer.{Transfer}
-use Rattle.prompt_meaning.specs.Device.{is_started, record_of, without}
+use Rattle.prompt_semantics.specs.Device.{is_started, record_of, without}
 use Rattle.box_run_laws.specs.Layouts.{Mixed}
 
 or_none : (a b : Bool) → (a || b) ≡ false → (a ≡ false) × (b ≡ false)

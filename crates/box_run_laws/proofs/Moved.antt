@@ -18,9 +18,9 @@ use Rattle.direct_meaning.specs.Transfers.{meets, overlap}
 use Rattle.direct_meaning.specs.Action.{Home, SlowMemref, FastMemref, TagMemref, Place, Slow, Fast, Outside, Operand, Number, Register, Action, Known, Sets, Loads, Stores, RawLoads, RawStores, Operates, Converts, Allocates, Releases, AllocatesTags, ReleasesTags, Starts, Waits, Faults, Returns}
 use Rattle.direct_meaning.specs.Static.{product, within, row_major, cell_in, slow_at, fast_at, half_place, place_at}
 use Rattle.direct_meaning.specs.Direct.{Outcome, End, Fault, then_do, folded, keep, write, read, raw_place, keep_result, direct_step}
-use Rattle.prompt_meaning.specs.Device.{Device, put_half, put_halves, fresh_half, is_away, has_away, is_started, has_started, load_races, store_races, start_races, copied_in, copied_out, recorded, started, record_of, without}
-use Rattle.prompt_meaning.proofs.Laws.{half_same, half_other, halves_other}
-use Rattle.prompt_meaning.specs.Prompt.{carried, refused, prompt_load, prompt_store, prompt_start, wait_on, acts}
+use Rattle.prompt_semantics.specs.Device.{Device, put_half, put_halves, fresh_half, is_away, has_away, is_started, has_started, load_races, store_races, start_races, copied_in, copied_out, recorded, started, record_of, without}
+use Rattle.prompt_semantics.proofs.Laws.{half_same, half_other, halves_other}
+use Rattle.prompt_semantics.specs.Prompt.{carried, refused, prompt_load, prompt_store, prompt_start, wait_on, acts}
 use Rattle.box_run_laws.specs.Roomy.{roomy, roomy_step}
 use Rattle.boxes.specs.Every.{Every}
 use Rattle.box_run_laws.specs.Layouts.{Numbering, Renumbers, renumbered, renumbered_if, Cell, Copy, Layout, Mixed, moved_to, place_moved, moved, unset_but, still_unset, unset_behind}

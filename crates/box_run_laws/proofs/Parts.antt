@@ -7,8 +7,8 @@ use Rattle.bus_model.specs.declared.transfer.Transfer.{Transfer}
 use Rattle.direct_meaning.specs.Action.{Place, Slow, Fast, Outside, Action, Known, Stores}
 use Rattle.direct_meaning.specs.Direct.{Outcome, End, Fault, then_do, folded, direct_step}
 use Rattle.direct_meaning.proofs.Laws.{folded-append}
-use Rattle.prompt_meaning.specs.Device.{Device}
-use Rattle.prompt_meaning.specs.Prompt.{acts}
+use Rattle.prompt_semantics.specs.Device.{Device}
+use Rattle.prompt_semantics.specs.Prompt.{acts}
 use Rattle.box_run_laws.specs.Roomy.{roomy, roomy_step}
 use Rattle.boxes.specs.Every.{Every}
 use Rattle.box_run_laws.specs.Layouts.{Numbering, Renumbers, Cell, nowhere, moved, unset_but, still_unset, unset_behind}

@@ -14,7 +14,7 @@ use Rattle.direct_meaning.specs.Transfers.{ends_by}
 use Rattle.direct_meaning.specs.Action.{Home, SlowMemref, FastMemref, TagMemref, Place, Slow, Fast, Outside, Action, Allocates, AllocatesTags, Starts, Faults}
 use Rattle.direct_meaning.specs.Static.{Env, knows, product, tag_of, lower_of, upper_of, holds_at}
 use Rattle.direct_meaning.specs.Actions.{half_cells, is_fast, alloc_of, dealloc_of, constant_of, Layout, layout_of, has_shape, started, transfer_of, start_between, start_of, wait_of, action_of, after_plain, behind, actions}
-use Rattle.prompt_meaning.specs.Device.{bytes_of}
+use Rattle.prompt_semantics.specs.Device.{bytes_of}
 use Rattle.box_run_laws.specs.Roomy.{live_by, most_live}
 use Rattle.box_run_laws.specs.Peaks.{fast_bytes, plain_live, live_after, peak_of, AreEven, HomeIs, PlainMatches, Matches}
 

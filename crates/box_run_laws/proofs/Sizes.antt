@@ -10,9 +10,9 @@ use Rattle.bus_model.specs.Copies.{moved_in}
 use Rattle.bus_model.proofs.Copies.{length-first_in}
 use Rattle.direct_meaning.specs.Action.{Place, Slow, Fast, Outside, Action, Known, Sets, Loads, Stores, RawLoads, RawStores, Operates, Converts, Allocates, Releases, AllocatesTags, ReleasesTags, Starts, Waits, Faults, Returns}
 use Rattle.direct_meaning.specs.Direct.{Outcome, End, Fault, then_do, folded, State, raw_place}
-use Rattle.prompt_meaning.specs.Device.{Device, put_half, fresh_half, is_away, has_away, is_started, has_started, load_races, store_races, start_races, copied_in, copied_out, recorded, started, record_of, without}
-use Rattle.prompt_meaning.proofs.Laws.{half_same, half_other, halves_other}
-use Rattle.prompt_meaning.specs.Prompt.{carried, refused, prompt_load, prompt_store, prompt_start, wait_on, acts}
+use Rattle.prompt_semantics.specs.Device.{Device, put_half, fresh_half, is_away, has_away, is_started, has_started, load_races, store_races, start_races, copied_in, copied_out, recorded, started, record_of, without}
+use Rattle.prompt_semantics.proofs.Laws.{half_same, half_other, halves_other}
+use Rattle.prompt_semantics.specs.Prompt.{carried, refused, prompt_load, prompt_store, prompt_start, wait_on, acts}
 use Rattle.box_run_laws.specs.Roomy.{roomy, roomy_step}
 use Rattle.boxes.specs.Every.{Every}
 use Rattle.box_run_laws.specs.Layouts.{Numbering, Layout, moved}

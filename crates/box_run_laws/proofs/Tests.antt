@@ -6,7 +6,7 @@ use Rattle.std.proofs.lemmas.Bool.{eqb-true, eqb-false, eq-eqb, ne_eqb, and_part
 use Rattle.bus_model.specs.declared.transfer.Transfer.{Transfer}
 use Rattle.bus_model.specs.Places.{slow_place, slow_places}
 use Rattle.direct_meaning.specs.Transfers.{meets, overlap}
-use Rattle.prompt_meaning.specs.Device.{is_away, has_away, is_started, has_started, load_races, store_races, start_races, record_of, without}
+use Rattle.prompt_semantics.specs.Device.{is_away, has_away, is_started, has_started, load_races, store_races, start_races, record_of, without}
 use Rattle.boxes.specs.Every.{Every}
 use Rattle.box_run_laws.specs.Layouts.{Numbering, Injective, Renumbers, renumbered}
 

@@ -7,8 +7,8 @@ use Rattle.affine_ast.specs.declared.image.Image.{Image}
 use Rattle.bus_model.specs.declared.transfer.Transfer.{Transfer}
 use Rattle.direct_meaning.specs.Direct.{Outcome, End, Fault, folded, State, first_state, direct_step}
 use Rattle.direct_meaning.specs.Action.{Action}
-use Rattle.prompt_meaning.specs.Device.{Device}
-use Rattle.prompt_meaning.specs.Prompt.{first_device}
+use Rattle.prompt_semantics.specs.Device.{Device}
+use Rattle.prompt_semantics.specs.Prompt.{first_device}
 use Rattle.box_run_laws.specs.Roomy.{roomy_step}
 use Rattle.box_run_laws.specs.Layouts.{Numbering, Renumbers, nowhere, Cell}
 use Rattle.box_run_laws.specs.Owned.{Related, Ends}

@@ -3,7 +3,7 @@
 use Rattle.std.specs.Prelude.{◌≡◌, ◌⊎◌, ℕ, zero, suc, ◌<◌, ◌≢◌, ◌&&◌, Bool, true, false, List, [], Option, Some, None, is_some, nat_eq, if◌then◌else◌}
 use Rattle.bus_model.specs.declared.transfer.Transfer.{Transfer}
 use Rattle.bus_model.specs.Places.{slow_place}
-use Rattle.prompt_meaning.specs.Device.{is_away}
+use Rattle.prompt_semantics.specs.Device.{is_away}
 use Rattle.boxes.specs.Every.{Every}
 use Rattle.box_run_laws.specs.Layouts.{Numbering, Cell, Copy, Layout, nowhere}
 use Rattle.box_run_laws.specs.Owned.{IsNew}

@@ -5,8 +5,8 @@ use Rattle.affine_ast.specs.declared.name.Name.{Name}
 use Rattle.affine_ast.specs.declared.image.Image.{Image}
 use Rattle.direct_meaning.specs.Action.{Action}
 use Rattle.direct_meaning.specs.Direct.{Outcome, End, Fault, folded, State, state_of, first_state, direct_step}
-use Rattle.prompt_meaning.specs.Device.{Device}
-use Rattle.prompt_meaning.specs.Prompt.{prompt_step, first_device}
+use Rattle.prompt_semantics.specs.Device.{Device}
+use Rattle.prompt_semantics.specs.Prompt.{prompt_step, first_device}
 use Rattle.box_run_laws.specs.Roomy.{roomy_step, most_live}
 use Rattle.boxes.specs.Every.{Every}
 use Rattle.box_run_laws.specs.Layouts.{Numbering, Renumbers}

@@ -6,7 +6,7 @@ use Rattle.bus_model.specs.Places.{slow_place}
 use Rattle.direct_meaning.specs.Action.{Home, SlowMemref, FastMemref, TagMemref, Place, Slow, Fast, Outside, Operand, Number, Register, Action, Known, Sets, Loads, Stores, RawLoads, RawStores, Operates, Converts, Allocates, Releases, AllocatesTags, ReleasesTags, Starts, Waits, Faults, Returns}
 use Rattle.direct_meaning.specs.Static.{product}
 use Rattle.direct_meaning.specs.Direct.{Outcome, End, Fault, State}
-use Rattle.prompt_meaning.specs.Device.{Device, is_away, load_races, store_races, start_races}
+use Rattle.prompt_semantics.specs.Device.{Device, is_away, load_races, store_races, start_races}
 use Rattle.boxes.specs.Every.{Every}
 use Rattle.box_run_laws.specs.Layouts.{Numbering, renumbered, Cell, Copy, Layout, Mixed}
 

@@ -4,7 +4,7 @@ use Rattle.std.specs.List.{list_any}
 use Rattle.affine_ast.specs.declared.name.Name.{Name}
 use Rattle.bus_model.specs.declared.transfer.Transfer.{Transfer}
 use Rattle.direct_meaning.specs.Action.{Slow, Action, Known, Stores, Starts, Waits}
-use Rattle.prompt_meaning.specs.Device.{without}
+use Rattle.prompt_semantics.specs.Device.{without}
 use Rattle.boxes.specs.Every.{Every}
 use Rattle.box_run_laws.specs.Layouts.{Numbering, nowhere, moved}
 use Rattle.box_run_laws.specs.Owned.{OwnAction}

@@ -5,7 +5,7 @@ use Rattle.affine_ast.specs.Nest.{Plain, Nest, Nothing, Loop, Branch, Does, Allo
 use Rattle.direct_meaning.specs.Action.{Home, SlowMemref, FastMemref, TagMemref}
 use Rattle.direct_meaning.specs.Static.{Env, knows}
 use Rattle.direct_meaning.specs.Actions.{is_fast, after_plain, behind}
-use Rattle.prompt_meaning.specs.Device.{bytes_of}
+use Rattle.prompt_semantics.specs.Device.{bytes_of}
 
 abbrev pub fast_bytes : MemrefType → ℕ
 fast_bytes ty = if is_fast ty then bytes_of ty.element ty.sizes else 0

@@ -1,7 +1,7 @@
 //! Runs of parts: a run of actions, and the run in which boxes of memrefs are staged in fast memory round loops.
 //!
 //! No syntax is involved: both runs are readings of one list of parts. The crate stands on `direct_meaning` and
-//! `prompt_meaning`.
+//! `prompt_semantics`.
 #![tactic(auto)]
 
 ghost use Rattle.box_run_laws.specs.Law.{PlacementsAgree, CapacityKept, LiveKnown, StagingAgrees};

@@ -10,8 +10,8 @@ use Rattle.affine_ast.specs.Names.{same_name}
 use Rattle.affine_ast.proofs.Names.{same_name-eq}
 use Rattle.int_ops.specs.Wrapped.{wrapped}
 use Rattle.direct_meaning.specs.Direct.{State}
-use Rattle.prompt_meaning.specs.Device.{Device, fresh_half, allocated, released}
-use Rattle.prompt_meaning.proofs.Laws.{halves_same, halves_other}
+use Rattle.prompt_semantics.specs.Device.{Device, fresh_half, allocated, released}
+use Rattle.prompt_semantics.proofs.Laws.{halves_same, halves_other}
 use Rattle.copy_emit.proofs.Moved.{Cell, Layout, Sound, Lives}
 use Rattle.copy_emit.proofs.Copies.{CopiedIn, CopiedOut}
 

@@ -13,9 +13,9 @@ use Rattle.direct_meaning.specs.Turns.{turns}
 use Rattle.direct_meaning.specs.Action.{Slow, Fast, Register, Action, Loads, Stores}
 use Rattle.direct_meaning.specs.Direct.{Outcome, End, then_do, folded, keep, write, read}
 use Rattle.direct_meaning.proofs.Laws.{turns_more, turns_end}
-use Rattle.prompt_meaning.specs.Device.{Device, put_half, is_away, load_races, store_races}
-use Rattle.prompt_meaning.proofs.Laws.{half_same, half_other}
-use Rattle.prompt_meaning.specs.Prompt.{refused, acts, prompt_step}
+use Rattle.prompt_semantics.specs.Device.{Device, put_half, is_away, load_races, store_races}
+use Rattle.prompt_semantics.proofs.Laws.{half_same, half_other}
+use Rattle.prompt_semantics.specs.Prompt.{refused, acts, prompt_step}
 
 -- two actions for each number from k on
 abbrev pub pairs : (ℕ → Action) → (ℕ → Action) → ℕ → ℕ → List Action

@@ -14,9 +14,9 @@ use Rattle.bus_model.specs.declared.step.FaultKind.TheVariants.{Touched, Race}
 use Rattle.bus_model.specs.declared.transfer.Transfer.{Transfer}
 use Rattle.direct_meaning.specs.Action.{Place, Slow, Fast, Outside, Operand, Number, Register, Action, Known, Sets, Loads, Stores, RawLoads, RawStores, Operates, Converts, Allocates, Releases, AllocatesTags, ReleasesTags, Starts, Waits, Faults, Returns}
 use Rattle.direct_meaning.specs.Direct.{Outcome, End, Fault, then_do, folded, State, keep, write, read, direct_load, direct_store, keep_result, direct_step}
-use Rattle.prompt_meaning.specs.Device.{Device, put_half, is_away, load_races, store_races}
-use Rattle.prompt_meaning.proofs.Laws.{half_same, half_other}
-use Rattle.prompt_meaning.specs.Prompt.{carried, refused, prompt_load, prompt_store, acts, prompt_step}
+use Rattle.prompt_semantics.specs.Device.{Device, put_half, is_away, load_races, store_races}
+use Rattle.prompt_semantics.proofs.Laws.{half_same, half_other}
+use Rattle.prompt_semantics.specs.Prompt.{carried, refused, prompt_load, prompt_store, acts, prompt_step}
 
 -- a cell of fast memory
 pub record Cell : Type 0 where

@@ -21,8 +21,8 @@ use Rattle.direct_meaning.specs.Actions.{action_of, after_plain, behind, actions
 use Rattle.direct_meaning.specs.Direct.{Outcome, End, Fault, then_do, folded, State, direct_step}
 use Rattle.direct_meaning.proofs.WorkLaws.{Every, Between, all_between}
 use Rattle.direct_meaning.proofs.Laws.{folded-cons, folded-append, actions-Nothing, actions-Does, actions-Loop, actions-followed, after-followed}
-use Rattle.prompt_meaning.specs.Device.{Device, allocated, released, has_away}
-use Rattle.prompt_meaning.specs.Prompt.{refused, acts, prompt_step}
+use Rattle.prompt_semantics.specs.Device.{Device, allocated, released, has_away}
+use Rattle.prompt_semantics.specs.Prompt.{refused, acts, prompt_step}
 use Rattle.bus_model.specs.declared.step.FaultKind.TheVariants.{Touched}
 use Rattle.copy_emit.specs.Template.{Staged, FirstLoop, slow_type, window_type, staged_of, before, redirect_stmt}
 use Rattle.copy_emit.specs.Template as template

@@ -18,8 +18,8 @@ use Rattle.direct_meaning.specs.Actions.{action_of, after_plain, behind, actions
 use Rattle.direct_meaning.specs.Memory.{slow_list, start_env, module_actions}
 use Rattle.direct_meaning.specs.Direct.{Outcome, End, Fault, then_do, folded, State, direct_step, first_state, plain}
 use Rattle.direct_meaning.proofs.Laws.{folded-append, actions-Nothing, actions-Does, actions-Loop, actions-followed}
-use Rattle.prompt_meaning.specs.Device.{Device}
-use Rattle.prompt_meaning.specs.Prompt.{acts, prompt_step, first_device, prompt}
+use Rattle.prompt_semantics.specs.Device.{Device}
+use Rattle.prompt_semantics.specs.Prompt.{acts, prompt_step, first_device, prompt}
 use Rattle.copy_emit.specs.Template.{Staged, FirstLoop, input_body, staged_body, staged_of, before, redirect_stmt}
 use Rattle.copy_emit.specs.Template as template
 use Rattle.copy_emit.specs.FirstForm.{arg_types}

@@ -14,7 +14,7 @@ use Rattle.direct_meaning.specs.Turns.{gap}
 use Rattle.direct_meaning.specs.Static.{product}
 use Rattle.direct_meaning.specs.Memory.{Fits}
 use Rattle.direct_meaning.specs.Direct.{plain}
-use Rattle.prompt_meaning.specs.Prompt.{prompt}
+use Rattle.prompt_semantics.specs.Prompt.{prompt}
 use Rattle.copy_emit.specs.Template.{Staged, FirstLoop}
 use Rattle.copy_emit.specs.FirstForm.{IsFirstForm}
 use Rattle.copy_emit.specs.Law.{Agrees, staged}

@@ -5,8 +5,8 @@ use Rattle.affine_ast.specs.declared.image.Image.{Image}
 use Rattle.affine_ast.specs.declared.module.Module.{Module}
 use Rattle.direct_meaning.specs.Memory.{Fits}
 use Rattle.direct_meaning.specs.Direct.{Outcome, End, Fault, State, plain}
-use Rattle.prompt_meaning.specs.Device.{Device}
-use Rattle.prompt_meaning.specs.Prompt.{prompt}
+use Rattle.prompt_semantics.specs.Device.{Device}
+use Rattle.prompt_semantics.specs.Prompt.{prompt}
 use Rattle.copy_emit.specs.Template.{Staged, FirstLoop, staged_body}
 use Rattle.copy_emit.specs.FirstForm.{IsFirstForm, IsPlan}
 

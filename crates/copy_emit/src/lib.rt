@@ -1,7 +1,7 @@
 //! Staged modules with copy loops: what the template makes of a loop and of the memrefs that are copied to fast memory
 //! round it, and the law that the staged module does what the module does.
 //!
-//! The crate stands on the meanings of `direct_meaning` and `prompt_meaning`.
+//! The crate stands on the meanings of `direct_meaning` and `prompt_semantics`.
 #![tactic(auto)]
 
 ghost use Rattle.copy_emit.specs.FirstPlan.{FirstPlanAgrees, PrintedPlanAgrees};

@@ -5,7 +5,7 @@ use Rattle.std.specs.List.{All, list_any, IsDistinct, AllByRecursion}
 use Rattle.bus_model.specs.declared.transfer.Transfer.{Transfer}
 use Rattle.std.proofs.lemmas.List.{length-map}
 use Rattle.std.proofs.lemmas.Map.Steps.{length-le_from_distinct_below}
-use Rattle.prompt_meaning.specs.Device.{is_started}
+use Rattle.prompt_semantics.specs.Device.{is_started}
 use Rattle.prompt_laws.specs.Reaches.{FlightFits, FlightsFit}
 use Rattle.transfer_records.specs.Found.{HasPlaces}
 

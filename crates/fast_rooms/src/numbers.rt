@@ -3,7 +3,7 @@ ghost use Rattle.std.specs.Prelude.{◌≡◌, ◌≤◌, ◌^◌};
 ghost use Rattle.affine_ast.specs.Sizes.{element_bits, product};
 ghost use Rattle.int_ops.specs.Wrapped.{IsWidth, wrapped};
 ghost use Rattle.direct_meaning.specs.Static.{element_bytes};
-ghost use Rattle.prompt_meaning.specs.Device.{bytes_of};
+ghost use Rattle.prompt_semantics.specs.Device.{bytes_of};
 ghost use Rattle.prompt_laws.specs.Reaches.{SizesFit};
 
 use affine_ast::Element;

@@ -4,7 +4,7 @@ use Rattle.affine_ast.specs.declared.image.Image.{Image}
 use Rattle.affine_ast.specs.declared.module.Module.{Module}
 use Rattle.direct_meaning.specs.Memory.{Fits}
 use Rattle.direct_meaning.specs.Direct.{plain}
-use Rattle.prompt_meaning.specs.Prompt.{prompt}
+use Rattle.prompt_semantics.specs.Prompt.{prompt}
 use Rattle.copy_emit.specs.Template.{FirstLoop}
 use Rattle.copy_emit.specs.Law.{staged, Agrees}
 use Rattle.copy_emit.specs.FirstPlan.{first_plan, first_staged}

@@ -16,8 +16,8 @@ use Rattle.direct_meaning.specs.Actions.{action_of, after_plain, actions}
 use Rattle.direct_meaning.specs.Memory.{start_env, module_actions}
 use Rattle.direct_meaning.specs.Direct.{folded, read, direct_step, plain}
 use Rattle.direct_meaning.specs.Work.{first_turn, last_end, full_work, work}
-use Rattle.prompt_meaning.specs.Device.{put_half, put_halves, started}
-use Rattle.prompt_meaning.specs.Prompt.{acts, prompt_step, prompt}
+use Rattle.prompt_semantics.specs.Device.{put_half, put_halves, started}
+use Rattle.prompt_semantics.specs.Prompt.{acts, prompt_step, prompt}
 use Rattle.copy_emit.specs.FirstPlan.{first_plan, other_letters}
 use Rattle.meaning_numbers.specs.Worked.{Quotients, LoopTurns, Raised, NinthTurn, EvenTurns, WrappedSum, LeastByMinusOne, SeveralResults, Waited, Faulted, Strided, Works, Template, StagedRaise, RaiseIsFirst, Windows, WindowTemplate, StagedPart, NothingStaged}
 use Rattle.meaning_numbers.specs.Modules.{raise, i, A, B, load_a, one_more, add_one, store_b, memref_arg, slow}

@@ -10,7 +10,7 @@ use Rattle.bus_model.specs.declared.step.Verdict.TheVariants as verdict
 use Rattle.direct_meaning.specs.Turns.{turns}
 use Rattle.direct_meaning.specs.Direct.{plain, state_of, verdict_of}
 use Rattle.direct_meaning.specs.Work.{work}
-use Rattle.prompt_meaning.specs.Prompt.{prompt, prompt_verdict, prompt_slow, prompt_numbers}
+use Rattle.prompt_semantics.specs.Prompt.{prompt, prompt_verdict, prompt_slow, prompt_numbers}
 use Rattle.copy_emit.specs.Template.{input_body, staged_body}
 use Rattle.copy_emit.specs.FirstPlan.{window_place, window_extent, first_staged, other_letters}
 use Rattle.copy_emit.specs.FirstForm.{IsFirstForm}

@@ -1,6 +1,6 @@
 //! Worked numbers of the meanings: small modules whose values, memories and faults the definitions are computed on.
 //!
-//! Each function is a list of numbers; it does nothing. The crate stands on `direct_meaning`, `prompt_meaning` and
+//! Each function is a list of numbers; it does nothing. The crate stands on `direct_meaning`, `prompt_semantics` and
 //! `copy_emit`.
 #![tactic(auto)]
 

@@ -13,7 +13,7 @@ use Rattle.direct_meaning.specs.Memory.{start_env, module_actions}
 use Rattle.direct_meaning.specs.Direct.{folded}
 use Rattle.direct_meaning.specs.Static.{Env, knows, lower_of, upper_of, holds_at}
 use Rattle.direct_meaning.specs.Turns.{turns}
-use Rattle.prompt_meaning.specs.Prompt.{prompt, prompt_step, first_device}
+use Rattle.prompt_semantics.specs.Prompt.{prompt, prompt_step, first_device}
 use Rattle.box_run_laws.specs.Peaks.{plain_live, peak_of}
 use Rattle.placement_texts.proofs.Nested.{fasts_mapped, tags_mapped}
 use Rattle.placement_texts.proofs.StagedValid.{arguments_told}

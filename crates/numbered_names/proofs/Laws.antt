@@ -18,8 +18,8 @@ use Rattle.bus_model.specs.declared.step.Verdict.TheVariants as verdict
 use Rattle.direct_meaning.specs.Direct.{Outcome, End, Fault, folded, verdict_of, state_of}
 use Rattle.direct_meaning.specs.Actions.{actions}
 use Rattle.direct_meaning.specs.Memory.{Fits, FitsArgs, start_env, module_actions}
-use Rattle.prompt_meaning.specs.Device.{Device}
-use Rattle.prompt_meaning.specs.Prompt.{prompt_step, first_device, prompt, prompt_verdict, prompt_slow, prompt_numbers}
+use Rattle.prompt_semantics.specs.Device.{Device}
+use Rattle.prompt_semantics.specs.Prompt.{prompt_step, first_device, prompt, prompt_verdict, prompt_slow, prompt_numbers}
 use Rattle.placement_texts.specs.Own.{OwnNames, OwnNest}
 use Rattle.placement_texts.specs.Renamed.{named, plain_named, KeepsApart, RenamesScope}
 use Rattle.rename_laws.specs.Law.{SameOutcome, SameUnder}

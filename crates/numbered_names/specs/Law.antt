@@ -4,7 +4,7 @@ use Rattle.affine_ast.specs.declared.image.Image.{Image}
 use Rattle.affine_ast.specs.declared.module.Module.{Module}
 use Rattle.affine_ast.specs.Validity.{IsValid}
 use Rattle.direct_meaning.specs.Memory.{Fits}
-use Rattle.prompt_meaning.specs.Prompt.{prompt, prompt_verdict, prompt_slow, prompt_numbers}
+use Rattle.prompt_semantics.specs.Prompt.{prompt, prompt_verdict, prompt_slow, prompt_numbers}
 use Rattle.numbered_names.specs.Numbers.{value_names, made_of, IsNumbered}
 
 -- a valid module with its made names numbered is valid

@@ -7,7 +7,7 @@ use lib.Dec.{eqb}
 use native.Mathlib.Decide.{ℕ_discrete}
 use Rattle.bus_model.specs.Engines.{Flight, flight_of, with_flight}
 use Rattle.order_meaning.specs.Machine.{transfers_of, is_engine, held_by, without_flight}
-use Rattle.prompt_meaning.specs.Device.{record_of}
+use Rattle.prompt_semantics.specs.Device.{record_of}
 use Rattle.order_meaning.proofs.Flights.{same_some, none_some, both_ways, if_true, if_false, which}
 use Rattle.order_meaning.proofs.Sides.{same_number}
 use Rattle.order_engines.specs.declared.flying.Flying.{Flying}

@@ -12,7 +12,7 @@ use Rattle.order_meaning.specs.Listed.{Has, IsWaiting}
 use Rattle.order_meaning.proofs.Flights.{if_true, if_false, record_of_no_flight, no_flight_of_record, tags_behind, flight_behind, flight_before, transfers_behind, record_gone, tags_without, transfers_without, flight_without}
 use Rattle.order_meaning.proofs.Listed.{has_either}
 use Rattle.order_meaning.proofs.Sides.{same_number}
-use Rattle.prompt_meaning.specs.Device.{record_of}
+use Rattle.prompt_semantics.specs.Device.{record_of}
 use Rattle.order_engines.specs.declared.flying.Flying.{Flying}
 use Rattle.order_engines.specs.declared.flights.Flights.{Flights}
 use Rattle.order_engines.specs.Flying.{flight, flights_of, IsPlaceOf, FliesWithin, AllFlyWithin}

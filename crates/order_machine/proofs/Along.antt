@@ -9,8 +9,8 @@ use Rattle.bus_model.specs.declared.step.Verdict.{Verdict}
 use Rattle.bus_model.specs.declared.step.Verdict.TheVariants as verdict
 use Rattle.direct_meaning.specs.Action.{Action}
 use Rattle.direct_meaning.specs.Direct.{Outcome, End, Fault, then_do, folded, first_state, verdict_of, state_of}
-use Rattle.prompt_meaning.specs.Device.{Device}
-use Rattle.prompt_meaning.specs.Prompt.{acts, prompt_step, first_device}
+use Rattle.prompt_semantics.specs.Device.{Device}
+use Rattle.prompt_semantics.specs.Prompt.{acts, prompt_step, first_device}
 use Rattle.prompt_laws.specs.Along.{Along}
 use Rattle.prompt_laws.specs.Reaches.{CanAct}
 use Rattle.prompt_laws.specs.Rooms.{Room}

@@ -10,8 +10,8 @@ use Rattle.bus_model.specs.declared.step.Verdict.TheVariants as verdict
 use Rattle.direct_meaning.specs.Direct.{Outcome, End, Fault, verdict_of}
 use Rattle.direct_meaning.specs.Memory.{Fits, module_actions}
 use Rattle.affine_ast.specs.declared.image.Image.{Image}
-use Rattle.prompt_meaning.specs.Device.{Device}
-use Rattle.prompt_meaning.specs.Prompt.{prompt, prompt_verdict, prompt_slow}
+use Rattle.prompt_semantics.specs.Device.{Device}
+use Rattle.prompt_semantics.specs.Prompt.{prompt, prompt_verdict, prompt_slow}
 use Rattle.prompt_laws.proofs.Conclusions.{runs_promptly}
 use Rattle.run_laws.specs.StaysFitting.{with_slow}
 use Rattle.order_laws.proofs.Valid.{valid_orders}

@@ -8,8 +8,8 @@ use Rattle.bus_model.specs.declared.step.Verdict.{Verdict}
 use Rattle.bus_model.specs.declared.step.Verdict.TheVariants as verdict
 use Rattle.direct_meaning.specs.Memory.{module_actions, slow_list}
 use Rattle.direct_meaning.specs.Work.{work}
-use Rattle.prompt_meaning.specs.Device.{Device}
-use Rattle.prompt_meaning.specs.Prompt.{prompt_step, first_device, prompt, prompt_slow}
+use Rattle.prompt_semantics.specs.Device.{Device}
+use Rattle.prompt_semantics.specs.Prompt.{prompt_step, first_device, prompt, prompt_slow}
 use Rattle.run_laws.specs.StaysFitting.{refilled}
 use Rattle.run_parts.specs.Settled.{CanSettle}
 use Rattle.prompt_laws.specs.Along.{Along}
@@ -18,7 +18,7 @@ use Rattle.prompt_laws.specs.Law.{RunsPromptly}
 use Rattle.prompt_laws.specs.Reaches.{CanAct, FlightsFit}
 use Rattle.prompt_laws.specs.Rooms.{Room, module_rooms}
 use Rattle.prompt_laws.proofs.Conclusions.{runs_promptly}
-use Rattle.prompt_run.proofs.Agreement.{total_rises}
+use Rattle.prompt_meaning.proofs.Agreement.{total_rises}
 use Rattle.run_laws.proofs.Memories.{memory_cells}
 use Rattle.order_laws.proofs.Valid.{valid_orderly}
 use Rattle.order_meaning.specs.Machine.{transfers_of, is_held_up}

@@ -6,7 +6,7 @@ use Rattle.bus_model.specs.declared.transfer.Transfer.{Transfer}
 use Rattle.bus_model.specs.Engines.{Flight, flight_of}
 use Rattle.direct_meaning.specs.Action.{Place, Slow, Fast, Outside, Action, Known, Sets, Loads, Stores, RawLoads, RawStores, Operates, Converts, Allocates, Releases, AllocatesTags, ReleasesTags, Starts, Waits, Faults, Returns}
 use Rattle.direct_meaning.specs.Direct.{read}
-use Rattle.prompt_meaning.specs.Device.{Device, record_of}
+use Rattle.prompt_semantics.specs.Device.{Device, record_of}
 use Rattle.run_parts.specs.Settled.{settled_result, settled}
 use Rattle.prompt_laws.specs.Reaches as prompt
 use Rattle.prompt_laws.specs.Rooms.{Room, room_at}

@@ -4,7 +4,7 @@ use Rattle.affine_ast.specs.declared.image.Image.{Image}
 use Rattle.affine_ast.specs.declared.module.Module.{Module}
 use Rattle.bus_model.specs.declared.step.Step.{Step}
 use Rattle.bus_model.specs.declared.step.Verdict.{Verdict}
-use Rattle.prompt_meaning.specs.Prompt.{prompt, prompt_verdict}
+use Rattle.prompt_semantics.specs.Prompt.{prompt, prompt_verdict}
 use Rattle.run_laws.specs.StaysFitting.{with_slow}
 use Rattle.order_meaning.specs.Machine.{Machine, after_step}
 use Rattle.order_meaning.specs.Run.{IsMaximal}

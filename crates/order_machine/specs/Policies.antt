@@ -3,7 +3,7 @@ use Rattle.std.specs.Prelude.{◌≡◌, ◌↔◌, ℕ, ℤ, Bool, true, false,
 use Rattle.bus_model.specs.declared.step.Step.{Step}
 use Rattle.bus_model.specs.declared.step.Step.TheVariants.{Compute, Take, Move, Finish}
 use Rattle.bus_model.specs.declared.step.Verdict.{Verdict}
-use Rattle.prompt_meaning.specs.Prompt.{prompt, prompt_verdict}
+use Rattle.prompt_semantics.specs.Prompt.{prompt, prompt_verdict}
 use Rattle.run_laws.specs.StaysFitting.{with_slow}
 use Rattle.order_meaning.specs.Machine.{Machine, Enabled, after_step}
 use Rattle.order_meaning.specs.Listed.{IsListed}

@@ -5,8 +5,8 @@ use Rattle.int_ops.specs.Operation.{operation}
 use Rattle.int_ops.specs.Cast.{cast_value}
 use Rattle.direct_meaning.specs.Action.{Action, Known, Sets, Loads, Stores, RawLoads, RawStores, Operates, Converts, Allocates, Releases, AllocatesTags, ReleasesTags, Starts, Waits, Faults, Returns}
 use Rattle.direct_meaning.specs.Direct.{raw_place, read, direct_step}
-use Rattle.prompt_meaning.specs.Device.{Device, has_away, record_of}
-use Rattle.prompt_meaning.specs.Prompt.{acts, prompt_load, prompt_store}
+use Rattle.prompt_semantics.specs.Device.{Device, has_away, record_of}
+use Rattle.prompt_semantics.specs.Prompt.{acts, prompt_load, prompt_store}
 use Rattle.order_meaning.specs.Machine.{Core, is_held_up, act_on, load}
 use Rattle.order_meaning.specs.Orderly.{Rooms}
 use Rattle.order_meaning.specs.Agree.{Agree}

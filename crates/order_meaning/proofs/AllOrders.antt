@@ -11,8 +11,8 @@ use Rattle.bus_model.specs.declared.transfer.Started.{Started}
 use Rattle.bus_model.specs.Engines.{Flight, started_of}
 use Rattle.direct_meaning.specs.Action.{Action}
 use Rattle.direct_meaning.specs.Direct.{Outcome, End, Fault, folded, first_state, state_of}
-use Rattle.prompt_meaning.specs.Device.{Device}
-use Rattle.prompt_meaning.specs.Prompt.{prompt_step, first_device}
+use Rattle.prompt_semantics.specs.Device.{Device}
+use Rattle.prompt_semantics.specs.Prompt.{prompt_step, first_device}
 use Rattle.order_meaning.specs.Machine.{Machine, transfers_of, end_of, first_machine, after_step}
 use Rattle.order_meaning.specs.Run.{after_steps, IsRun, IsMaximal, computes, all_left}
 use Rattle.order_meaning.specs.Agree.{lists_of, Agree}

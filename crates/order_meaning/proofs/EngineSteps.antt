@@ -5,7 +5,7 @@ use native.Mathlib.Decide.{ℕ_discrete}
 use Rattle.bus_model.specs.declared.transfer.Transfer.{Transfer}
 use Rattle.bus_model.specs.Engines.{Flight, flight_of, with_flight, with_engine, next_in, next_out, slow_out, take, move_in, move_out, finish, Agree as BusAgrees}
 use Rattle.bus_model.proofs.Orders.{with_here, with_else, step_keeps}
-use Rattle.prompt_meaning.specs.Device.{Device}
+use Rattle.prompt_semantics.specs.Device.{Device}
 use Rattle.order_meaning.specs.Machine.{Core, held_by, with_next, with_finished}
 use Rattle.order_meaning.specs.Run.{steps_left, left_by, all_left}
 use Rattle.order_meaning.specs.Agree.{bus_of, prompt_of, TagsApart, IsSteady, FlightOk, Agree}

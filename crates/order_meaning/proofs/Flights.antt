@@ -6,7 +6,7 @@ use native.Mathlib.Decide.{ℕ_discrete}
 use Rattle.bus_model.specs.declared.transfer.Transfer.{Transfer}
 use Rattle.bus_model.specs.declared.transfer.Started.{Started}
 use Rattle.bus_model.specs.Engines.{Flight, flight_of, with_flight, started_of}
-use Rattle.prompt_meaning.specs.Device.{record_of, without}
+use Rattle.prompt_semantics.specs.Device.{record_of, without}
 use Rattle.order_meaning.specs.Machine.{transfers_of, without_flight, is_engine, held_by}
 use Rattle.order_meaning.specs.Run.{steps_left, all_left}
 use Rattle.order_meaning.specs.Agree.{with_list, lists_of, TagsApart}

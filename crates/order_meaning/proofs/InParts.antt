@@ -10,7 +10,7 @@ use Rattle.bus_model.specs.Copies.{number_at}
 use Rattle.bus_model.specs.Ledger.{Placed, Copied, NotPending}
 use Rattle.bus_model.specs.Engines.{Flight, flight_of, started_of, progress, progress_of}
 use Rattle.bus_model.proofs.Halves.{own_half}
-use Rattle.prompt_meaning.specs.Device.{Device, record_of}
+use Rattle.prompt_semantics.specs.Device.{Device, record_of}
 use Rattle.order_meaning.specs.Machine.{Half, Here, Away, Core, transfers_of}
 use Rattle.order_meaning.specs.Agree.{with_list, lists_of, tag_of, Agree}
 use Rattle.order_meaning.specs.Parts.{IsOutstanding, IsUnmoved, own_cell, prompt_half, Parts, AgreesInParts}

@@ -9,7 +9,7 @@ use Rattle.bus_model.specs.declared.step.Step.TheVariants.{Compute, Take, Move, 
 use Rattle.bus_model.specs.declared.step.Verdict.{Verdict}
 use Rattle.bus_model.specs.Engines.{Flight, flight_of}
 use Rattle.direct_meaning.specs.Action.{Action}
-use Rattle.prompt_meaning.specs.Device.{Device}
+use Rattle.prompt_semantics.specs.Device.{Device}
 use Rattle.order_meaning.specs.Machine.{Machine, Core, transfers_of, is_held_up, CanCompute, held_by, CanBeTaken, HasMore, HasAll, Permitted, Enabled}
 use Rattle.order_meaning.specs.Agree.{TagsApart, Agree}
 use Rattle.order_meaning.specs.Listed.{Has, IsBelow, IsAscending, IsWaiting, compute_steps, engine_steps, steps_from, listed, IsListed, ListsEnabled, ListsOne}

@@ -14,10 +14,10 @@ use Rattle.bus_model.specs.Engines.{started_of, progress_of, Agree as BusAgrees}
 use Rattle.bus_model.proofs.Ledgers.{ledger_store}
 use Rattle.direct_meaning.specs.Action.{Place, Slow, Fast, Outside}
 use Rattle.direct_meaning.specs.Direct.{Outcome, End, Fault, keep, keep_result, verdict_of, state_of}
-use Rattle.prompt_meaning.specs.Device.{Device, bytes_of, fresh_half, put_half, put_halves, allocated, released, is_away, has_away, has_started, load_races, store_races}
-use Rattle.prompt_meaning.specs.Prompt.{refused}
-use Rattle.prompt_meaning.specs.Prompt as prompt
-use Rattle.prompt_meaning.proofs.Laws.{half_same, half_other, halves_other}
+use Rattle.prompt_semantics.specs.Device.{Device, bytes_of, fresh_half, put_half, put_halves, allocated, released, is_away, has_away, has_started, load_races, store_races}
+use Rattle.prompt_semantics.specs.Prompt.{refused}
+use Rattle.prompt_semantics.specs.Prompt as prompt
+use Rattle.prompt_semantics.proofs.Laws.{half_same, half_other, halves_other}
 use Rattle.order_meaning.specs.Machine.{Half, Here, Away, Core, transfers_of, carried, load_half, load, store_half, store, allocate}
 use Rattle.order_meaning.specs.Run.{all_left}
 use Rattle.order_meaning.specs.Agree.{bus_of, lists_of, tag_of, Agree}

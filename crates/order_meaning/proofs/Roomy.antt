@@ -17,9 +17,9 @@ use Rattle.direct_meaning.specs.Action.{Place, Slow, Fast, Outside, Action, Know
 use Rattle.direct_meaning.specs.Actions.{half_cells}
 use Rattle.direct_meaning.specs.Static.{element_bits}
 use Rattle.direct_meaning.specs.Direct.{Outcome, End, Fault, keep_result, direct_step}
-use Rattle.prompt_meaning.specs.Device.{Device, bytes_of, put_half, put_halves, fresh_half, allocated, released, is_away, has_away, is_started, has_started, load_races, store_races, start_races, recorded, copied_in, copied_out, started, record_of, without}
-use Rattle.prompt_meaning.specs.Prompt.{carried, refused, prompt_load, prompt_store, prompt_alloc, prompt_start, wait_on, acts}
-use Rattle.prompt_meaning.proofs.Laws.{half_same, half_other, halves_other}
+use Rattle.prompt_semantics.specs.Device.{Device, bytes_of, put_half, put_halves, fresh_half, allocated, released, is_away, has_away, is_started, has_started, load_races, store_races, start_races, recorded, copied_in, copied_out, started, record_of, without}
+use Rattle.prompt_semantics.specs.Prompt.{carried, refused, prompt_load, prompt_store, prompt_alloc, prompt_start, wait_on, acts}
+use Rattle.prompt_semantics.proofs.Laws.{half_same, half_other, halves_other}
 use Rattle.order_meaning.specs.Orderly.{Rooms, with_room, FitsTransfer, releases_tag, rooms_after, IsOrderly}
 use Rattle.order_meaning.specs.Agree.{TagsApart}
 use Rattle.order_meaning.proofs.Flights.{same_some, none_some, both_ways, if_true, if_false, any_none, record_behind, record_before, record_without, record_gone}

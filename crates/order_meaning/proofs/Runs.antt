@@ -11,9 +11,9 @@ use Rattle.bus_model.specs.declared.transfer.Transfer.{Transfer}
 use Rattle.bus_model.specs.Engines.{Flight, flight_of}
 use Rattle.direct_meaning.specs.Action.{Action, Waits}
 use Rattle.direct_meaning.specs.Direct.{Outcome, End, Fault, then_do, folded, verdict_of, state_of}
-use Rattle.prompt_meaning.specs.Device.{Device, record_of}
-use Rattle.prompt_meaning.specs.Prompt.{acts, prompt_step}
-use Rattle.prompt_meaning.proofs.Laws.{count_step}
+use Rattle.prompt_semantics.specs.Device.{Device, record_of}
+use Rattle.prompt_semantics.specs.Prompt.{acts, prompt_step}
+use Rattle.prompt_semantics.proofs.Laws.{count_step}
 use Rattle.order_meaning.specs.Machine.{Core, Machine, transfers_of, is_free, is_finished, holds_up, is_held_up, CanCompute, held_by, CanBeTaken, HasMore, HasAll, Enabled, with_next, with_finished, engine_step, end_of, settled, act_on, compute_step, after_step}
 use Rattle.order_meaning.specs.Run.{after_steps, IsRun, computes, all_left}
 use Rattle.order_meaning.specs.Agree.{TagsApart, IsSteady, FlightOk, Agree}

@@ -15,7 +15,7 @@ use Rattle.bus_model.specs.Ledger.{HalvesAway, Apart}
 use Rattle.bus_model.specs.Engines.{started_of}
 use Rattle.bus_model.proofs.Places.{meets_at}
 use Rattle.direct_meaning.specs.Transfers.{overlap}
-use Rattle.prompt_meaning.specs.Device.{Device, put_half, put_halves, is_away, has_away, is_started, load_races, store_races, start_races, record_of}
+use Rattle.prompt_semantics.specs.Device.{Device, put_half, put_halves, is_away, has_away, is_started, load_races, store_races, start_races, record_of}
 use Rattle.order_meaning.specs.Machine.{Half, Here, Away, Core}
 use Rattle.order_meaning.specs.Agree.{with_list, lists_of, tag_of, Agree}
 use Rattle.order_meaning.proofs.Flights.{none_some, both_ways, if_true, if_false, record_of_started, started_of_record, any_found, any_none, neither, record_has_tag}

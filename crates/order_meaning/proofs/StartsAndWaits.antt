@@ -16,10 +16,10 @@ use Rattle.bus_model.proofs.Halves.{halves_start, halves_drop}
 use Rattle.bus_model.proofs.Ledgers.{ledger_start, ledger_drop}
 use Rattle.bus_model.proofs.Places.{places_are_distinct}
 use Rattle.direct_meaning.specs.Direct.{End, Fault}
-use Rattle.prompt_meaning.specs.Device.{Device, put_half, is_away, is_started, start_races, recorded, copied_in, copied_out, started, record_of, without}
-use Rattle.prompt_meaning.specs.Prompt.{refused}
-use Rattle.prompt_meaning.specs.Prompt as prompt
-use Rattle.prompt_meaning.proofs.Laws.{half_same, half_other}
+use Rattle.prompt_semantics.specs.Device.{Device, put_half, is_away, is_started, start_races, recorded, copied_in, copied_out, started, record_of, without}
+use Rattle.prompt_semantics.specs.Prompt.{refused}
+use Rattle.prompt_semantics.specs.Prompt as prompt
+use Rattle.prompt_semantics.proofs.Laws.{half_same, half_other}
 use Rattle.order_meaning.specs.Machine.{Half, Here, Away, Core, transfers_of, sent, start_half, start, without_flight, wait_on, is_free, is_finished, holds_up}
 use Rattle.order_meaning.specs.Run.{steps_left, left_by, all_left}
 use Rattle.order_meaning.specs.Agree.{with_list, lists_of, tag_of, FlightOk, Agree}

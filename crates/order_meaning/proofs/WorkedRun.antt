@@ -4,8 +4,8 @@ use Rattle.affine_expr.specs.Value.{floor_div, ceil_div, floor_mod}
 use Rattle.int_ops.specs.Wrapped.{wrapped, unsigned}
 use Rattle.bus_model.specs.Places.{slow_place}
 use Rattle.direct_meaning.specs.Direct.{folded, direct_step}
-use Rattle.prompt_meaning.specs.Device.{put_half, put_halves, started}
-use Rattle.prompt_meaning.specs.Prompt.{acts, prompt_step}
+use Rattle.prompt_semantics.specs.Device.{put_half, put_halves, started}
+use Rattle.prompt_semantics.specs.Prompt.{acts, prompt_step}
 use Rattle.order_meaning.specs.Machine.{act_on, after_step}
 use Rattle.order_meaning.specs.Orderly.{Orderly}
 use Rattle.order_meaning.specs.Worked.{memory, two_out, worked_actions, WorkedRun}

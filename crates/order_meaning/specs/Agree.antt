@@ -4,7 +4,7 @@ use Rattle.bus_model.specs.declared.transfer.Transfer.{Transfer}
 use Rattle.bus_model.specs.declared.transfer.Started.{Started}
 use Rattle.bus_model.specs.Ledger.{HalvesAway}
 use Rattle.bus_model.specs.Engines.{Flight, flight_of, Device as Bus, Prompt as PromptBus, started_of, Agree as BusAgrees}
-use Rattle.prompt_meaning.specs.Device.{Device, record_of}
+use Rattle.prompt_semantics.specs.Device.{Device, record_of}
 use Rattle.order_meaning.specs.Machine.{Half, Here, Away, Core, transfers_of}
 
 -- slow memory and the outstanding transfers

@@ -6,8 +6,8 @@ use Rattle.bus_model.specs.declared.step.Step.{Step}
 use Rattle.bus_model.specs.declared.step.Verdict.TheVariants as verdict
 use Rattle.direct_meaning.specs.Action.{Action}
 use Rattle.direct_meaning.specs.Direct.{Outcome, End, Fault, folded, first_state, state_of}
-use Rattle.prompt_meaning.specs.Device.{Device}
-use Rattle.prompt_meaning.specs.Prompt.{prompt_step, first_device}
+use Rattle.prompt_semantics.specs.Device.{Device}
+use Rattle.prompt_semantics.specs.Prompt.{prompt_step, first_device}
 use Rattle.order_meaning.specs.Machine.{Machine, first_machine}
 use Rattle.order_meaning.specs.Run.{after_steps, IsRun, IsMaximal, computes}
 use Rattle.order_meaning.specs.Agree.{Agree}

@@ -5,7 +5,7 @@ use Rattle.bus_model.specs.declared.step.Step.TheVariants.{Compute, Take, Move, 
 use Rattle.bus_model.specs.declared.step.Verdict.{Verdict}
 use Rattle.bus_model.specs.Engines.{Flight, flight_of}
 use Rattle.direct_meaning.specs.Action.{Action}
-use Rattle.prompt_meaning.specs.Device.{Device}
+use Rattle.prompt_semantics.specs.Device.{Device}
 use Rattle.order_meaning.specs.Machine.{Machine, is_held_up, held_by, CanBeTaken, Enabled}
 use Rattle.order_meaning.specs.Agree.{Agree}
 

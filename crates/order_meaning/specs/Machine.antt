@@ -13,8 +13,8 @@ use Rattle.bus_model.specs.declared.transfer.Transfer.{Transfer}
 use Rattle.bus_model.specs.Engines.{Flight, flight_of, with_flight, with_engine, next_in, next_out, slow_out}
 use Rattle.direct_meaning.specs.Action.{Place, Slow, Fast, Outside, Action, Known, Sets, Loads, Stores, RawLoads, RawStores, Operates, Converts, Allocates, Releases, AllocatesTags, ReleasesTags, Starts, Waits, Faults, Returns}
 use Rattle.direct_meaning.specs.Direct.{Outcome, End, Fault, State, keep, write, read, raw_place, direct_step, first_state}
-use Rattle.prompt_meaning.specs.Prompt.{refused}
-use Rattle.prompt_meaning.specs.Device.{bytes_of, put_half, put_halves, fresh_half, is_started, has_started, has_away, load_races, store_races, start_races}
+use Rattle.prompt_semantics.specs.Prompt.{refused}
+use Rattle.prompt_semantics.specs.Device.{bytes_of, put_half, put_halves, fresh_half, is_started, has_started, has_away, load_races, store_races, start_races}
 
 -- a half is here with its cells, or away with the tag of its transfer
 pub data Half : Type 0 where

@@ -3,7 +3,7 @@ use Rattle.std.specs.Prelude.{◌≡◌, ◌≢◌, ◌⊎◌, ◌↔◌, ℕ, �
 use Rattle.bus_model.specs.Places.{slow_place}
 use Rattle.bus_model.specs.Copies.{number_at}
 use Rattle.bus_model.specs.Engines.{Flight, flight_of}
-use Rattle.prompt_meaning.specs.Device.{Device}
+use Rattle.prompt_semantics.specs.Device.{Device}
 use Rattle.order_meaning.specs.Machine.{Here, Away, Core, transfers_of}
 use Rattle.order_meaning.specs.Agree.{FlightOk, TagsApart, Agree}
 

@@ -7,7 +7,7 @@ use Rattle.bus_model.specs.declared.step.Step.TheVariants.{Compute, Take, Move, 
 use Rattle.bus_model.specs.declared.step.Verdict.TheVariants as verdict
 use Rattle.bus_model.specs.declared.transfer.Transfer.{Transfer}
 use Rattle.direct_meaning.specs.Action.{Action, Allocates, Releases, AllocatesTags, ReleasesTags, Starts, Waits, Returns}
-use Rattle.prompt_meaning.specs.Prompt.{prompt_numbers}
+use Rattle.prompt_semantics.specs.Prompt.{prompt_numbers}
 use Rattle.order_meaning.specs.Machine.{Machine, first_machine}
 use Rattle.order_meaning.specs.Run.{after_steps, IsRun}
 use Rattle.order_meaning.specs.Orderly.{Orderly}

@@ -9,7 +9,7 @@ use Rattle.int_ops.specs.Wrapped.{wrapped}
 use Rattle.bus_model.specs.declared.step.FaultKind.TheVariants.{Capacity, Touched, Tag}
 use Rattle.fast_halves.specs.Shape.{HalfShape, HalvesShape, here, away, IsHere}
 use Rattle.direct_meaning.specs.Direct.{End, Fault}
-use Rattle.prompt_meaning.specs.Device.{bytes_of, fresh_half, has_away, has_started, put_halves}
+use Rattle.prompt_semantics.specs.Device.{bytes_of, fresh_half, has_away, has_started, put_halves}
 use Rattle.run_parts.specs.Registered.{values_of}
 use Rattle.prompt_laws.specs.Rooms.{Room, room_at, room_of}
 use Rattle.order_meaning.specs.Machine.{Half, Here, Away, Core, transfers_of, allocate}

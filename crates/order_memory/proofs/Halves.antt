@@ -4,7 +4,7 @@ use Rattle.std.specs.Prelude.{nat_eq, Some, slice_get}
 use Rattle.std.proofs.lemmas.List.{length-replicate}
 use native.Mathlib.Decide.{ℕ_discrete}
 use Rattle.fast_halves.specs.Shape.{HalfShape, HalvesShape, here}
-use Rattle.prompt_meaning.specs.Device.{put_half, put_halves}
+use Rattle.prompt_semantics.specs.Device.{put_half, put_halves}
 use Rattle.prompt_laws.specs.Rooms.{Room, room_at}
 use Rattle.order_meaning.specs.Machine.{Half, Here}
 use Rattle.order_meaning.proofs.Flights.{same_some}

@@ -7,8 +7,8 @@ use Rattle.bus_model.specs.declared.step.FaultKind.TheVariants.{Race, Touched}
 use Rattle.fast_halves.specs.Shape.{here, away}
 use Rattle.direct_meaning.specs.Action.{Slow, Fast}
 use Rattle.direct_meaning.specs.Direct.{Outcome, End, Fault, keep, write}
-use Rattle.prompt_meaning.specs.Device.{load_races, store_races, put_half}
-use Rattle.prompt_meaning.specs.Prompt.{refused}
+use Rattle.prompt_semantics.specs.Device.{load_races, store_races, put_half}
+use Rattle.prompt_semantics.specs.Prompt.{refused}
 use Rattle.run_parts.specs.Registered.{values_of}
 use Rattle.prompt_laws.specs.Rooms.{Room, room_at}
 use Rattle.order_meaning.specs.Machine.{Half, Here, Away, Core, transfers_of, load_half, store, store_half}

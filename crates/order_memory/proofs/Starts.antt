@@ -9,7 +9,7 @@ use Rattle.bus_model.specs.Places.{slow_place}
 use Rattle.bus_model.specs.Engines.{Flight, flight_of}
 use Rattle.fast_halves.specs.Shape.{HalfShape, here, away}
 use Rattle.direct_meaning.specs.Direct.{Fault}
-use Rattle.prompt_meaning.specs.Device.{is_started, start_races, put_half, record_of}
+use Rattle.prompt_semantics.specs.Device.{is_started, start_races, put_half, record_of}
 use Rattle.run_parts.specs.Registered.{values_of}
 use Rattle.prompt_laws.specs.Reaches.{FlightsFit}
 use Rattle.prompt_laws.specs.Rooms.{Room, room_at}

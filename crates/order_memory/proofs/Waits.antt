@@ -6,7 +6,7 @@ use Rattle.bus_model.specs.declared.transfer.Transfer.{Transfer}
 use Rattle.bus_model.specs.Engines.{Flight, flight_of}
 use Rattle.fast_halves.specs.Shape.{HalfShape, here, away, IsAway}
 use Rattle.direct_meaning.specs.Direct.{End, Fault}
-use Rattle.prompt_meaning.specs.Device.{put_half, record_of, without}
+use Rattle.prompt_semantics.specs.Device.{put_half, record_of, without}
 use Rattle.run_parts.specs.Registered.{values_of}
 use Rattle.prompt_laws.specs.Rooms.{Room, room_at}
 use Rattle.order_meaning.specs.Machine.{Half, Here, Away, Core, transfers_of, without_flight, wait_on, is_finished, holds_up}

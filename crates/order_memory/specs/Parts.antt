@@ -4,8 +4,8 @@ use Rattle.affine_ast.specs.declared.types.Element.{Element}
 use Rattle.bus_model.specs.declared.step.FaultKind.TheVariants.{Touched, Tag}
 use Rattle.bus_model.specs.Engines.{Flight}
 use Rattle.direct_meaning.specs.Direct.{Outcome, End}
-use Rattle.prompt_meaning.specs.Device.{bytes_of, has_away, has_started, put_half}
-use Rattle.prompt_meaning.specs.Prompt.{refused}
+use Rattle.prompt_semantics.specs.Device.{bytes_of, has_away, has_started, put_half}
+use Rattle.prompt_semantics.specs.Prompt.{refused}
 use Rattle.order_meaning.specs.Machine.{Here, Core, transfers_of, without_flight}
 
 -- a release of a fast memref

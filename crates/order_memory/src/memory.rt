@@ -5,7 +5,7 @@ ghost use Rattle.std.specs.List.{All, remove};
 ghost use Rattle.fast_halves.specs.Shape.{IsHere};
 ghost use Rattle.bus_model.specs.Engines.{Flight, flight_of};
 ghost use Rattle.direct_meaning.specs.Action.{Slow, Fast};
-ghost use Rattle.prompt_meaning.specs.Device.{is_started, start_races, without};
+ghost use Rattle.prompt_semantics.specs.Device.{is_started, start_races, without};
 ghost use Rattle.walk_program.specs.Names.{name_at, AreDistinct};
 ghost use Rattle.walk_program.specs.Reading.{nest_of};
 ghost use Rattle.walk_program.specs.Tree.{tree};

@@ -15,8 +15,8 @@ use Rattle.tag_table.specs.Shapes.{BusShape, ComputeShape, IsIdle}
 use Rattle.direct_meaning.specs.Static.{element_bits}
 use Rattle.direct_meaning.specs.Actions.{half_cells}
 use Rattle.direct_meaning.specs.Direct.{End}
-use Rattle.prompt_meaning.specs.Device.{Device, record_of, has_away, put_halves, allocated, released, bytes_of, fresh_half}
-use Rattle.prompt_meaning.specs.Prompt.{prompt_alloc, refused}
+use Rattle.prompt_semantics.specs.Device.{Device, record_of, has_away, put_halves, allocated, released, bytes_of, fresh_half}
+use Rattle.prompt_semantics.specs.Prompt.{prompt_alloc, refused}
 use Rattle.order_meaning.specs.Orderly.{with_room}
 use Rattle.overlap_memory.specs.declared.memory.Memory.{Memory}
 use Rattle.overlap_memory.specs.Tied.{Tied, FastShape, FollowsTo, with_allocated, with_released, no_halves, half_at, memref_at, tag_of, lists_of, how_many}

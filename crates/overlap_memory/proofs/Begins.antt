@@ -8,8 +8,8 @@ use Rattle.tag_table.specs.Shapes.{BusShape, ComputeShape, IsIdle, fresh_compute
 use Rattle.bus_model.specs.Engines.{started_of}
 use Rattle.affine_ast.specs.declared.image.Image.{Image}
 use Rattle.direct_meaning.specs.Memory.{slow_list}
-use Rattle.prompt_meaning.specs.Device.{Device, record_of}
-use Rattle.prompt_meaning.specs.Prompt.{first_device}
+use Rattle.prompt_semantics.specs.Device.{Device, record_of}
+use Rattle.prompt_semantics.specs.Prompt.{first_device}
 use Rattle.overlap_memory.specs.declared.memory.Memory.{Memory}
 use Rattle.overlap_memory.specs.Tied.{Tied, TagsApart, IsPlaced, half_at, memref_at, tag_of, lists_of, how_many}
 use Rattle.overlap_memory.specs.First.{IsFirst, shape_at_first}

@@ -6,7 +6,7 @@ use native.Mathlib.Decide.{ℕ_discrete}
 use Rattle.bus_model.specs.declared.transfer.Transfer.{Transfer}
 use Rattle.bus_model.specs.declared.transfer.Started.{Started}
 use Rattle.tag_table.specs.Rule.{started_at}
-use Rattle.prompt_meaning.specs.Device.{record_of, without, is_started}
+use Rattle.prompt_semantics.specs.Device.{record_of, without, is_started}
 use Rattle.overlap_memory.specs.Tied.{how_many, one_if_started}
 use Rattle.overlap_memory.proofs.Lists.{if_true, if_false}
 

@@ -4,10 +4,10 @@ use Rattle.std.specs.Prelude.{Option, Some, nat_eq}
 use Rattle.std.specs.List.{remove}
 use Rattle.bus_model.specs.declared.transfer.Transfer.{Transfer}
 use Rattle.tag_table.specs.Shapes.{BusShape, NoneStarted}
-use Rattle.prompt_meaning.specs.Device.{Device, record_of, without}
+use Rattle.prompt_semantics.specs.Device.{Device, record_of, without}
 use Rattle.bus_model.specs.declared.step.FaultKind.TheVariants.{Shape}
 use Rattle.direct_meaning.specs.Direct.{End, Fault}
-use Rattle.prompt_meaning.specs.Prompt.{wait_on}
+use Rattle.prompt_semantics.specs.Prompt.{wait_on}
 use Rattle.overlap_memory.specs.declared.memory.Memory.{Memory}
 use Rattle.overlap_memory.specs.Tied.{Tied, FastShape}
 use Rattle.overlap_memory.proofs.Lists.{if_true, started_in, started_by}

@@ -11,12 +11,12 @@ use Rattle.bus_model.specs.Engines.{started_of}
 use Rattle.bus_model.specs.Ledger.{HalvesAway}
 use Rattle.tag_table.specs.Rule.{started_at}
 use Rattle.tag_table.specs.Shapes.{BusShape, ComputeShape, IsIdle}
-use Rattle.prompt_meaning.proofs.Laws.{half_same as prompt_half_same, half_other as prompt_half_other}
+use Rattle.prompt_semantics.proofs.Laws.{half_same as prompt_half_same, half_other as prompt_half_other}
 use Rattle.overlap_memory.proofs.Changed.{changed, changed_length, half_same, half_other, cells_same, halves_same}
 use Rattle.direct_meaning.specs.Action.{Fast}
 use Rattle.direct_meaning.specs.Direct.{End, keep}
-use Rattle.prompt_meaning.specs.Device.{Device, is_away, record_of, put_half}
-use Rattle.prompt_meaning.specs.Prompt.{prompt_store}
+use Rattle.prompt_semantics.specs.Device.{Device, is_away, record_of, put_half}
+use Rattle.prompt_semantics.specs.Prompt.{prompt_store}
 use Rattle.overlap_memory.specs.declared.memory.Memory.{Memory}
 use Rattle.overlap_memory.specs.Tied.{Tied, FastShape, HasCells, Follows, Gives, half_at, memref_at, tag_of, with_list, lists_of, how_many}
 use Rattle.overlap_memory.proofs.Lists.{both_ways, none_some, record_of_started, started_of_record, any_none, any_found, started_in, started_by}

@@ -6,7 +6,7 @@ use native.Mathlib.Decide.{ℕ_discrete}
 use Rattle.bus_model.specs.declared.transfer.Transfer.{Transfer}
 use Rattle.bus_model.specs.declared.transfer.Started.{Started}
 use Rattle.bus_model.specs.Engines.{started_of}
-use Rattle.prompt_meaning.specs.Device.{record_of, without}
+use Rattle.prompt_semantics.specs.Device.{record_of, without}
 use Rattle.transfer_records.specs.Found.{HasPlaces}
 use Rattle.overlap_memory.specs.Tied.{with_list, lists_of, TagsApart, IsPlaced}
 

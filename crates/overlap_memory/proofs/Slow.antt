@@ -11,8 +11,8 @@ use Rattle.tag_table.specs.Rule.{started_at, ClearOfOut, ClearOfAll}
 use Rattle.tag_table.specs.Shapes.{BusShape, with_word}
 use Rattle.direct_meaning.specs.Action.{Slow}
 use Rattle.direct_meaning.specs.Direct.{Outcome, End, Fault, keep, write}
-use Rattle.prompt_meaning.specs.Device.{Device, load_races, store_races, record_of}
-use Rattle.prompt_meaning.specs.Prompt.{refused, prompt_store}
+use Rattle.prompt_semantics.specs.Device.{Device, load_races, store_races, record_of}
+use Rattle.prompt_semantics.specs.Prompt.{refused, prompt_store}
 use Rattle.overlap_memory.specs.declared.memory.Memory.{Memory}
 use Rattle.overlap_memory.specs.Tied.{Tied, FastShape, Follows, Gives}
 use Rattle.overlap_memory.proofs.Lists.{both_ways, if_false, record_of_started, any_none}

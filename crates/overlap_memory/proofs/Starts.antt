@@ -14,10 +14,10 @@ use Rattle.bus_model.specs.Places.{slow_place, slow_places, meets}
 use Rattle.bus_model.proofs.Places.{meets_at}
 use Rattle.direct_meaning.specs.Transfers.{overlap}
 use Rattle.tag_table.specs.declared.view.Parcel.{Parcel}
-use Rattle.prompt_meaning.proofs.Laws.{half_same as prompt_half_same, half_other as prompt_half_other}
+use Rattle.prompt_semantics.proofs.Laws.{half_same as prompt_half_same, half_other as prompt_half_other}
 use Rattle.bus_model.specs.declared.step.FaultKind.TheVariants.{Tag, Touched, Race}
 use Rattle.direct_meaning.specs.Direct.{End}
-use Rattle.prompt_meaning.specs.Prompt.{prompt_start}
+use Rattle.prompt_semantics.specs.Prompt.{prompt_start}
 use Rattle.overlap_memory.proofs.Slow.{on_record, goes_on}
 use Rattle.overlap_memory.proofs.Fast.{is_out, other_half}
 use Rattle.bus_model.proofs.Copies.{length-first_in, length-first_out}
@@ -27,7 +27,7 @@ use Rattle.bus_model.proofs.Halves.{halves_start}
 use Rattle.fast_halves.specs.Shape.{here, away}
 use Rattle.tag_table.specs.Rule.{started_at}
 use Rattle.tag_table.specs.Shapes.{BusShape, IsIdle, ComputeShape, MayStart, after_start, with_tag, with_prompt}
-use Rattle.prompt_meaning.specs.Device.{Device, record_of, is_started, is_away, start_races, put_half, started, recorded, copied_in, copied_out}
+use Rattle.prompt_semantics.specs.Device.{Device, record_of, is_started, is_away, start_races, put_half, started, recorded, copied_in, copied_out}
 use Rattle.overlap_memory.specs.declared.memory.Memory.{Memory}
 use Rattle.overlap_memory.specs.Tied.{Tied, FastShape, IsAllocated, HasCells, CanStart, IsPlaced, half_at, memref_at, tag_of, with_list, lists_of, how_many}
 use Rattle.overlap_memory.proofs.Lists.{both_ways, if_true, if_false, same_some, started_in, started_by, any_none, record_behind, record_before, tags_behind}

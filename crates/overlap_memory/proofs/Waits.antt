@@ -10,7 +10,7 @@ use Rattle.bus_model.proofs.Halves.{halves_drop}
 use Rattle.fast_halves.specs.Shape.{HalfShape, here, away}
 use Rattle.tag_table.specs.Rule.{started_at}
 use Rattle.tag_table.specs.Shapes.{BusShape, IsIdle}
-use Rattle.prompt_meaning.specs.Device.{Device, record_of, without}
+use Rattle.prompt_semantics.specs.Device.{Device, record_of, without}
 use Rattle.overlap_memory.specs.declared.memory.Memory.{Memory}
 use Rattle.overlap_memory.specs.Tied.{Tied, FastShape, IsAllocated, HasCells, half_at, memref_at, tag_of, with_list, lists_of, how_many, IsPlaced}
 use Rattle.overlap_memory.proofs.Lists.{none_some, same_some, started_in, started_by, started_of_record, record_without, record_gone, tags_without}

@@ -1,7 +1,7 @@
 -- The states of the prompt meaning at the beginning of a run.
 use Rattle.std.specs.Prelude.{◌≡◌, ℕ, ℤ, List, [], length, None}
 use Rattle.fast_halves.specs.Shape.{HalvesShape}
-use Rattle.prompt_meaning.specs.Device.{Device}
+use Rattle.prompt_semantics.specs.Device.{Device}
 use Rattle.overlap_memory.specs.Tied.{FastShape, memref_at}
 
 -- these words are in slow memory, no half has a cell yet, and nothing is outstanding

@@ -15,8 +15,8 @@ use Rattle.tag_table.specs.Shapes.{BusShape, IsIdle}
 use Rattle.fast_halves.specs.Shape.{HalfShape, HalvesShape, here, away}
 use Rattle.direct_meaning.specs.Action.{Place}
 use Rattle.direct_meaning.specs.Direct.{Outcome, End, Fault, keep}
-use Rattle.prompt_meaning.specs.Device.{Device, record_of}
-use Rattle.prompt_meaning.specs.Prompt.{prompt_load}
+use Rattle.prompt_semantics.specs.Device.{Device, record_of}
+use Rattle.prompt_semantics.specs.Prompt.{prompt_load}
 use Rattle.order_meaning.specs.Orderly.{Rooms, with_room}
 use Rattle.overlap_memory.specs.declared.memory.Memory.{Memory}
 

@@ -5,7 +5,7 @@
 //! a state of the prompt meaning, in which each transfer completes at its start. Each call here then answers, and
 //! leaves the memory, as that meaning has it. A gate is called before each collect, and says whether this thread may serve as
 //! engine 0 while it waits. No call takes memory but `Memory::new`. The crate stands on
-//! `prompt_meaning`, on `transfer_records` for the tests of what is outstanding, on `tag_table` and `dma_engine` for the bus, on `fast_halves` for the halves, and on
+//! `prompt_semantics`, on `transfer_records` for the tests of what is outstanding, on `tag_table` and `dma_engine` for the bus, on `fast_halves` for the halves, and on
 //! `order_meaning` for what is allocated.
 #![tactic(auto)]
 

@@ -2,7 +2,7 @@
 ghost use Rattle.std.specs.Prelude.{◌≡◌, [], ◌∷◌, ◌++◌, ◌<◌, length, Some, None, MatchOption, vec_capacity};
 ghost use Rattle.std.specs.List.{remove};
 ghost use Rattle.bus_model.specs.declared.transfer.Transfer.{Transfer};
-ghost use Rattle.prompt_meaning.specs.Device.{record_of, without};
+ghost use Rattle.prompt_semantics.specs.Device.{record_of, without};
 
 use bus_model::Transfer;
 use transfer_records::find;

@@ -16,8 +16,8 @@ use Rattle.direct_meaning.specs.Actions.{tags_in, actions}
 use Rattle.direct_meaning.specs.Direct.{Outcome, folded, verdict_of, state_of}
 use Rattle.direct_meaning.specs.Memory.{Fits, module_actions, slow_list, start_env}
 use Rattle.fast_halves.specs.Shape.{HalfShape, HalvesShape, here, away}
-use Rattle.prompt_meaning.specs.Device as model
-use Rattle.prompt_meaning.specs.Prompt.{prompt_step, first_device, prompt, prompt_slow}
+use Rattle.prompt_semantics.specs.Device as model
+use Rattle.prompt_semantics.specs.Prompt.{prompt_step, first_device, prompt, prompt_slow}
 use Rattle.valid_laws.specs.Safe.{SafeNest}
 use Rattle.valid_laws.proofs.SafeStart.{valid_safe}
 use Rattle.run_laws.specs.StaysFitting.{refilled, with_slow}

@@ -8,8 +8,8 @@ use Rattle.bus_model.specs.declared.step.Verdict.TheVariants as verdict
 use Rattle.direct_meaning.specs.Action.{Action, Known, Sets, Loads, Stores, RawLoads, RawStores, Operates, Converts, Allocates, Releases, AllocatesTags, ReleasesTags, Starts, Waits, Faults, Returns}
 use Rattle.direct_meaning.specs.Direct.{Outcome, End, Fault, then_do, folded, read}
 use Rattle.direct_meaning.proofs.Laws.{folded-cons}
-use Rattle.prompt_meaning.specs.Device as model
-use Rattle.prompt_meaning.specs.Prompt.{acts, prompt_step}
+use Rattle.prompt_semantics.specs.Device as model
+use Rattle.prompt_semantics.specs.Prompt.{acts, prompt_step}
 use Rattle.walk_actions.specs.declared.action.Action as numbered
 use Rattle.walk_actions.specs.declared.action.Operand.{Operand}
 use Rattle.walk_actions.specs.Meant.{meant}
@@ -20,8 +20,8 @@ use Rattle.run_parts.specs.Settled.{settled_result, settled, CanSettle}
 use Rattle.prompt_laws.specs.Along.{Along}
 use Rattle.prompt_laws.specs.Reaches.{Reaches, CanAct}
 use Rattle.prompt_laws.specs.Rooms.{Room}
-use Rattle.prompt_run.proofs.Agreement.{settled_acts}
-use Rattle.prompt_run.proofs.Loop.{counted}
+use Rattle.prompt_meaning.proofs.Agreement.{settled_acts}
+use Rattle.prompt_meaning.proofs.Loop.{counted}
 use Rattle.order_meaning.specs.Orderly.{with_room, rooms_after, IsOrdered, IsOrderly}
 use Rattle.order_meaning.proofs.Flights.{none_some}
 use Rattle.tag_table.specs.Shapes.{BusShape}

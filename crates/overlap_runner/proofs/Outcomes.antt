@@ -9,9 +9,9 @@ use Rattle.bus_model.specs.declared.step.FaultKind.TheVariants.{Touched, Race, T
 use Rattle.bus_model.specs.declared.transfer.Transfer.{Transfer}
 use Rattle.direct_meaning.specs.Action.{Place, Slow, Fast, Outside}
 use Rattle.direct_meaning.specs.Direct.{Outcome, End, Fault, state_of, keep}
-use Rattle.prompt_meaning.specs.Device as model
-use Rattle.prompt_meaning.specs.Device.{bytes_of, allocated, released, is_away, has_away, is_started, has_started, load_races, store_races, start_races, recorded, copied_in, copied_out, started, record_of}
-use Rattle.prompt_meaning.specs.Prompt.{refused, prompt_load, prompt_store, prompt_alloc, prompt_start, wait_on}
+use Rattle.prompt_semantics.specs.Device as model
+use Rattle.prompt_semantics.specs.Device.{bytes_of, allocated, released, is_away, has_away, is_started, has_started, load_races, store_races, start_races, recorded, copied_in, copied_out, started, record_of}
+use Rattle.prompt_semantics.specs.Prompt.{refused, prompt_load, prompt_store, prompt_alloc, prompt_start, wait_on}
 use Rattle.run_parts.specs.Registered.{values_of}
 use Rattle.tag_table.specs.Shapes.{BusShape}
 use Rattle.overlap_memory.specs.Tied.{Tied, FastShape, FollowsTo, Gives}

@@ -9,9 +9,9 @@ use Rattle.bus_model.specs.declared.step.FaultKind.TheVariants.{Touched, Tag}
 use Rattle.bus_model.specs.declared.transfer.Transfer.{Transfer}
 use Rattle.direct_meaning.specs.Action.{Place, Number, Known, Sets, Loads, Stores, Allocates, Releases, ReleasesTags, Starts, Waits, Faults}
 use Rattle.direct_meaning.specs.Direct.{End, direct_step, read}
-use Rattle.prompt_meaning.specs.Device as model
-use Rattle.prompt_meaning.specs.Device.{has_away, has_started, record_of, released}
-use Rattle.prompt_meaning.specs.Prompt.{acts, refused, prompt_store, prompt_alloc, prompt_start, wait_on}
+use Rattle.prompt_semantics.specs.Device as model
+use Rattle.prompt_semantics.specs.Device.{has_away, has_started, record_of, released}
+use Rattle.prompt_semantics.specs.Prompt.{acts, refused, prompt_store, prompt_alloc, prompt_start, wait_on}
 use Rattle.run_parts.specs.declared.effect.Effect.{Effect}
 use Rattle.run_parts.specs.Effects.{effect_meant}
 use Rattle.run_parts.specs.Registered.{values_of}

@@ -7,7 +7,7 @@ use Rattle.bus_model.specs.declared.transfer.Transfer.{Transfer}
 use Rattle.bus_model.specs.Places.{slow_place}
 use Rattle.direct_meaning.specs.Action.{Slow, Fast}
 use Rattle.direct_meaning.specs.Actions.{half_cells}
-use Rattle.prompt_meaning.specs.Device as model
+use Rattle.prompt_semantics.specs.Device as model
 use Rattle.prompt_laws.specs.Reaches.{HalfIn, StartIn, AllocIn}
 use Rattle.prompt_laws.specs.Rooms.{Room, room_at}
 use Rattle.tag_table.specs.Shapes.{BusShape}

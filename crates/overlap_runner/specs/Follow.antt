@@ -2,7 +2,7 @@
 use Rattle.std.specs.Prelude.{◌≡◌, Result, Ok, Err}
 use Rattle.bus_model.specs.declared.step.FaultKind.{FaultKind}
 use Rattle.direct_meaning.specs.Direct.{Outcome, End, Fault}
-use Rattle.prompt_meaning.specs.Device as model
+use Rattle.prompt_semantics.specs.Device as model
 use Rattle.tag_table.specs.Shapes.{BusShape}
 use Rattle.overlap_memory.specs.Tied.{FastShape}
 use Rattle.overlap_runner.specs.declared.device.Device.{Device}

@@ -1,7 +1,7 @@
 -- What the compute thread holds, against a state of the prompt meaning, and what it needs of that state for an action.
 use Rattle.std.specs.Prelude.{◌≡◌, List, None}
 use Rattle.direct_meaning.specs.Action.{Place, Action, Allocates, Releases, Starts}
-use Rattle.prompt_meaning.specs.Device as model
+use Rattle.prompt_semantics.specs.Device as model
 use Rattle.run_parts.specs.Registered.{values_of}
 use Rattle.prompt_laws.specs.Reaches.{PlaceIn, Reaches}
 use Rattle.prompt_laws.specs.Rooms.{Room}

@@ -9,7 +9,7 @@ use Rattle.affine_ast.specs.Validity.{IsValid}
 use Rattle.bus_model.specs.declared.step.Verdict.{Verdict}
 use Rattle.direct_meaning.specs.Direct.{verdict_of}
 use Rattle.direct_meaning.specs.Memory.{Fits, module_actions}
-use Rattle.prompt_meaning.specs.Prompt.{prompt, prompt_slow, first_device}
+use Rattle.prompt_semantics.specs.Prompt.{prompt, prompt_slow, first_device}
 use Rattle.run_laws.specs.StaysFitting.{with_slow}
 use Rattle.walk_program.specs.declared.program.Program.{Program}
 use Rattle.walk_program.specs.Reading.{nest_of, arguments_of}
@@ -22,7 +22,7 @@ use Rattle.overlap_memory.specs.declared.memory.Memory.{Memory}
 use Rattle.overlap_memory.specs.Tied.{Tied, FastShape}
 use Rattle.overlap_memory.specs.First.{IsFirst, shape_at_first}
 use Rattle.fast_halves.specs.Shape.{HalvesShape}
-use Rattle.prompt_meaning.specs.Device as model
+use Rattle.prompt_semantics.specs.Device as model
 use Rattle.fast_rooms.specs.Rooms.{HaveRooms}
 use Rattle.overlap_runner.specs.declared.device.Device.{Device}
 use Rattle.overlap_runner.specs.Runs.{StandsAt}

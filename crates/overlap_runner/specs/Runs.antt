@@ -3,8 +3,8 @@ use Rattle.std.specs.Prelude.{◌≡◌, List, []}
 use Rattle.bus_model.specs.declared.step.Verdict.{Verdict}
 use Rattle.direct_meaning.specs.Action.{Action}
 use Rattle.direct_meaning.specs.Direct.{Outcome, folded, verdict_of, state_of}
-use Rattle.prompt_meaning.specs.Device as model
-use Rattle.prompt_meaning.specs.Prompt.{prompt_step}
+use Rattle.prompt_semantics.specs.Device as model
+use Rattle.prompt_semantics.specs.Prompt.{prompt_step}
 use Rattle.prompt_laws.specs.Along.{Along}
 use Rattle.prompt_laws.specs.Reaches.{CanAct}
 use Rattle.prompt_laws.specs.Rooms.{Room}

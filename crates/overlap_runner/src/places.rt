@@ -1,8 +1,8 @@
 // Loads and stores, by their places.
 ghost use Rattle.std.specs.Prelude.{◌≡◌, List};
 ghost use Rattle.prompt_laws.specs.Rooms.{Room};
-ghost use Rattle.prompt_meaning.specs.Device as model;
-ghost use Rattle.prompt_meaning.specs.Prompt.{prompt_store};
+ghost use Rattle.prompt_semantics.specs.Device as model;
+ghost use Rattle.prompt_semantics.specs.Prompt.{prompt_store};
 ghost use Rattle.overlap_memory.specs.Tied.{FastShape, Follows, Gives};
 ghost use Rattle.walk_actions.specs.Meant.{place_meant};
 ghost use Rattle.overlap_runner.specs.Held.{PlaceReached};

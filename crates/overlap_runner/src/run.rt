@@ -3,8 +3,8 @@ ghost use Rattle.std.specs.Prelude.{◌≡◌, ℕ, ◌+◌, ◌<◌, ◌^◌, L
 ghost use Rattle.std.specs.List.{All};
 ghost use Rattle.std.specs.Thread.{IsSync};
 ghost use Rattle.direct_meaning.specs.Direct.{folded};
-ghost use Rattle.prompt_meaning.specs.Device as model;
-ghost use Rattle.prompt_meaning.specs.Prompt.{prompt_step};
+ghost use Rattle.prompt_semantics.specs.Device as model;
+ghost use Rattle.prompt_semantics.specs.Prompt.{prompt_step};
 ghost use Rattle.prompt_laws.specs.Rooms.{Room};
 ghost use Rattle.tag_table.specs.Shapes.{IsIdle};
 ghost use Rattle.overlap_memory.specs.Tied.{FastShape};

@@ -9,8 +9,8 @@ use Rattle.bus_model.specs.declared.transfer.Transfer.{Transfer}
 use Rattle.int_ops.specs.Operation.{operation}
 use Rattle.direct_meaning.specs.Action.{Place, Slow, Fast, Outside, Action, Known, Sets, Loads, Stores, RawLoads, RawStores, Operates, Converts, Allocates, Releases, AllocatesTags, ReleasesTags, Starts, Waits, Faults, Returns}
 use Rattle.direct_meaning.specs.Direct.{Outcome, End, Fault, then_do, folded, state_of, read, raw_place, keep_result, direct_step}
-use Rattle.prompt_meaning.specs.Device.{Device, bytes_of, allocated, is_away, has_away, is_started, has_started, load_races, store_races, start_races, copied_in, copied_out, recorded, started, record_of, without}
-use Rattle.prompt_meaning.specs.Prompt.{carried, refused, prompt_load, prompt_store, prompt_start, wait_on, acts, prompt_step}
+use Rattle.prompt_semantics.specs.Device.{Device, bytes_of, allocated, is_away, has_away, is_started, has_started, load_races, store_races, start_races, copied_in, copied_out, recorded, started, record_of, without}
+use Rattle.prompt_semantics.specs.Prompt.{carried, refused, prompt_load, prompt_store, prompt_start, wait_on, acts, prompt_step}
 use Rattle.box_run_laws.specs.Roomy.{roomy, roomy_step}
 use Rattle.box_run_laws.proofs.Capacity.{capacity_kept}
 use Rattle.peak_laws.proofs.Mild.{Mild, AllMild}

@@ -19,8 +19,8 @@ use Rattle.direct_meaning.specs.Actions.{actions}
 use Rattle.direct_meaning.specs.Static.{Env}
 use Rattle.direct_meaning.specs.Direct.{Outcome, End, Fault, folded, state_of, verdict_of}
 use Rattle.direct_meaning.specs.Memory.{start_env, module_actions}
-use Rattle.prompt_meaning.specs.Device.{Device}
-use Rattle.prompt_meaning.specs.Prompt.{prompt_step, first_device, prompt}
+use Rattle.prompt_semantics.specs.Device.{Device}
+use Rattle.prompt_semantics.specs.Prompt.{prompt_step, first_device, prompt}
 use Rattle.valid_laws.proofs.Passing.{judged_passed, passed_of}
 use Rattle.box_run_laws.specs.Roomy.{roomy_step, most_live}
 use Rattle.box_run_laws.proofs.Capacity.{capacity_kept}

@@ -12,7 +12,7 @@ use Rattle.affine_ast.specs.Sizes.{product}
 use Rattle.affine_ast.specs.Validity.{Passed, then_told, told, rule_of_plain, rule_of_loop, rule_of_condition}
 use Rattle.direct_meaning.specs.Actions.{is_fast}
 use Rattle.direct_meaning.specs.Static.{element_bytes}
-use Rattle.prompt_meaning.specs.Device.{bytes_of}
+use Rattle.prompt_semantics.specs.Device.{bytes_of}
 use Rattle.valid_laws.proofs.Passing.{Holds, judged_passed, then_passed, plain_holds}
 use Rattle.peak_laws.specs.Peak.{fast_bytes, plain_live, peak_of, taken_by, bytes_in}
 

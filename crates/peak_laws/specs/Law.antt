@@ -8,7 +8,7 @@ use Rattle.bus_model.specs.declared.step.FaultKind.TheVariants.{Capacity}
 use Rattle.bus_model.specs.declared.step.Verdict.TheVariants as verdict
 use Rattle.direct_meaning.specs.Direct.{state_of, verdict_of}
 use Rattle.direct_meaning.specs.Memory.{Fits}
-use Rattle.prompt_meaning.specs.Prompt.{prompt}
+use Rattle.prompt_semantics.specs.Prompt.{prompt}
 use Rattle.peak_laws.specs.Peak.{peak, bytes_in}
 
 -- the most live bytes of the run that has room for the peak

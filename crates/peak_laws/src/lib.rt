@@ -1,6 +1,6 @@
 //! The peak of a module, the most bytes of fast memory that are live at once, and what it says of the module's runs.
 //!
-//! The crate stands on `prompt_meaning`, and on the laws of runs without a bound and of valid modules.
+//! The crate stands on `prompt_semantics`, and on the laws of runs without a bound and of valid modules.
 #![tactic(auto)]
 
 ghost use Rattle.peak_laws.specs.Law.{ValidRunsWithinPeak, ValidTakesFewBytes};

@@ -10,7 +10,7 @@ use Rattle.affine_ast.specs.Scope.{Totals}
 use Rattle.affine_ast.specs.Validity.{Told, Broken, told, outside, IsValid}
 use Rattle.valid_laws.proofs.SafeStart.{behind_arguments}
 use Rattle.direct_meaning.specs.Memory.{FitsArgs}
-use Rattle.prompt_meaning.specs.Prompt.{prompt}
+use Rattle.prompt_semantics.specs.Prompt.{prompt}
 use Rattle.box_run_laws.specs.Law.{Agrees}
 use Rattle.box_run_laws.specs.Peaks.{plain_live}
 use Rattle.nest_domain.specs.declared.plan.Options.{Options}

@@ -8,7 +8,7 @@ use Rattle.affine_ast.specs.PlainLimits.{plain_fault}
 use Rattle.affine_ast.specs.Validity.{IsValid}
 use Rattle.direct_meaning.specs.Direct.{plain}
 use Rattle.direct_meaning.specs.Memory.{Fits}
-use Rattle.prompt_meaning.specs.Prompt.{prompt}
+use Rattle.prompt_semantics.specs.Prompt.{prompt}
 use Rattle.box_run_laws.specs.Law.{Agrees}
 use Rattle.nest_domain.specs.declared.plan.Options.{Options}
 use Rattle.placement_texts.specs.Own.{OwnNest}

@@ -15,7 +15,7 @@ use Rattle.direct_meaning.specs.Actions.{actions}
 use Rattle.direct_meaning.specs.Direct.{folded, first_state, direct_step, plain}
 use Rattle.direct_meaning.specs.Memory.{start_env, module_actions}
 use Rattle.direct_meaning.specs.Static.{Env}
-use Rattle.prompt_meaning.specs.Prompt.{prompt, prompt_step, first_device}
+use Rattle.prompt_semantics.specs.Prompt.{prompt, prompt_step, first_device}
 use Rattle.box_run_laws.specs.Law.{Agrees}
 use Rattle.box_run_laws.specs.Roomy.{most_live}
 use Rattle.valid_laws.proofs.SafeStart.{behind_arguments, arguments_hold}

@@ -9,7 +9,7 @@ use Rattle.affine_ast.specs.PlainLimits.{plain_fault}
 use Rattle.affine_ast.specs.Validity.{Broken, told, told_arguments, outside, IsValid}
 use Rattle.direct_meaning.specs.Direct.{plain}
 use Rattle.direct_meaning.specs.Memory.{Fits, module_actions}
-use Rattle.prompt_meaning.specs.Prompt.{prompt}
+use Rattle.prompt_semantics.specs.Prompt.{prompt}
 use Rattle.boxes.specs.Every.{Every}
 use Rattle.box_run_laws.specs.Law.{Agrees}
 use Rattle.box_run_laws.specs.Roomy.{most_live}

@@ -13,8 +13,8 @@ use Rattle.affine_ast.specs.Validity.{outside, IsValid}
 use Rattle.direct_meaning.specs.Action.{Home}
 use Rattle.direct_meaning.specs.Direct.{Outcome, End, Fault, state_of, folded}
 use Rattle.direct_meaning.specs.Memory.{Fits, Placed, place_kind, place_arg, empty_env, start_env, module_actions}
-use Rattle.prompt_meaning.specs.Device.{Device}
-use Rattle.prompt_meaning.specs.Prompt.{prompt_step, first_device, prompt}
+use Rattle.prompt_semantics.specs.Device.{Device}
+use Rattle.prompt_semantics.specs.Prompt.{prompt_step, first_device, prompt}
 use Rattle.valid_laws.proofs.SafeStart.{start_around, start_stands, valid_safe}
 use Rattle.run_laws.specs.FitsTypes.{slow_widths}
 use Rattle.run_laws.proofs.Cells.{CellsFit}

@@ -12,8 +12,8 @@ use Rattle.direct_meaning.specs.Action.{Home, SlowMemref, FastMemref, TagMemref,
 use Rattle.direct_meaning.specs.Direct.{Outcome, End, Fault, then_do, folded, State, keep, write, read, raw_place, direct_load, direct_store, direct_step, verdict_of, state_of, plain}
 use Rattle.direct_meaning.specs.Memory.{Fits, module_actions}
 use Rattle.direct_meaning.specs.Static.{cell_in, slow_at, place_at}
-use Rattle.prompt_meaning.specs.Device.{Device, load_races, store_races}
-use Rattle.prompt_meaning.specs.Prompt.{carried, refused, prompt_load, prompt_store, acts, prompt_step, first_device, prompt, prompt_slow}
+use Rattle.prompt_semantics.specs.Device.{Device, load_races, store_races}
+use Rattle.prompt_semantics.specs.Prompt.{carried, refused, prompt_load, prompt_store, acts, prompt_step, first_device, prompt, prompt_slow}
 use Rattle.run_laws.specs.CanRun.{PlaceIn, HomeIn, CanTake, CanRun}
 use Rattle.run_laws.proofs.Conclusions.{can_run}
 use Rattle.prompt_laws.specs.Law.{SameAsDirect, PromptIsDirect}

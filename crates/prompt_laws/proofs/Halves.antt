@@ -11,8 +11,8 @@ use Rattle.int_ops.proofs.Wraps.{wrapped_range}
 use Rattle.bus_model.specs.declared.transfer.Transfer.{Transfer}
 use Rattle.bus_model.specs.Copies.{number_at, moved_in, moved_out}
 use Rattle.bus_model.specs.Places.{slow_place}
-use Rattle.prompt_meaning.specs.Device.{put_half, put_halves, is_started, without, record_of}
-use Rattle.prompt_meaning.proofs.Laws.{half_same, half_other, halves_same, halves_other}
+use Rattle.prompt_semantics.specs.Device.{put_half, put_halves, is_started, without, record_of}
+use Rattle.prompt_semantics.proofs.Laws.{half_same, half_other, halves_same, halves_other}
 use Rattle.run_laws.proofs.Cells.{CellsFit, by_places, cells_set}
 use Rattle.prompt_laws.specs.Rooms.{Room}
 use Rattle.prompt_laws.specs.Reaches.{FlightFits, FlightsFit}

@@ -23,8 +23,8 @@ use Rattle.direct_meaning.specs.Action.{Home, SlowMemref, FastMemref, TagMemref,
 use Rattle.direct_meaning.specs.Actions.{half_cells}
 use Rattle.direct_meaning.specs.Direct.{Outcome, End, Fault, State, keep, write, keep_result}
 use Rattle.direct_meaning.specs.Static.{within, cell_in, slow_at, fast_at, half_place, place_at}
-use Rattle.prompt_meaning.specs.Device.{Device, bytes_of, put_half, fresh_half, allocated, is_away, is_started, load_races, store_races, start_races, copied_in, copied_out, recorded, started, record_of, without}
-use Rattle.prompt_meaning.specs.Prompt.{carried, refused, prompt_load, prompt_store, prompt_alloc, prompt_start, wait_on}
+use Rattle.prompt_semantics.specs.Device.{Device, bytes_of, put_half, fresh_half, allocated, is_away, is_started, load_races, store_races, start_races, copied_in, copied_out, recorded, started, record_of, without}
+use Rattle.prompt_semantics.specs.Prompt.{carried, refused, prompt_load, prompt_store, prompt_alloc, prompt_start, wait_on}
 use Rattle.valid_laws.proofs.Scoped.{type_same}
 use Rattle.run_laws.proofs.Cells.{CellsFit, LiesAt, LiesIn, lies_along, within_below, cell_below, cells_set}
 use Rattle.run_laws.proofs.Typed.{element_width, Typed, static_put, data_put, typed_back, IsStatic}

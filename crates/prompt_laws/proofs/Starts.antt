@@ -16,7 +16,7 @@ use Rattle.direct_meaning.specs.Turns.{gap}
 use Rattle.direct_meaning.specs.Action.{Home, SlowMemref, FastMemref, TagMemref, Place, Slow, Fast, Outside, Action, Starts, Faults}
 use Rattle.direct_meaning.specs.Actions.{half_cells, Layout, layout_of, has_shape, started, transfer_of, start_between, start_of}
 use Rattle.direct_meaning.specs.Static.{Env, number, results_of, cell_in, slow_at, fast_at, half_place, place_at, place_of, tag_at, tag_of}
-use Rattle.prompt_meaning.specs.Device.{Device}
+use Rattle.prompt_semantics.specs.Device.{Device}
 use Rattle.valid_laws.specs.Safe.{IsMemref, IsCount, SafeChunks}
 use Rattle.run_laws.proofs.Cells.{LiesAt, cell_below}
 use Rattle.affine_ast.specs.Scope.{Scope}

@@ -29,8 +29,8 @@ use Rattle.direct_meaning.specs.Direct.{Outcome, End, read, raw_place, direct_st
 use Rattle.direct_meaning.specs.Static.{Env, knows, number, operand, results_of, place_at, place_of, tag_of, lower_of, upper_of, holds_at}
 use Rattle.direct_meaning.specs.Turns.{turns, gap}
 use Rattle.direct_meaning.proofs.WorkLaws.{all_between}
-use Rattle.prompt_meaning.specs.Device.{Device, has_away, has_started}
-use Rattle.prompt_meaning.specs.Prompt.{acts, prompt_step}
+use Rattle.prompt_semantics.specs.Device.{Device, has_away, has_started}
+use Rattle.prompt_semantics.specs.Prompt.{acts, prompt_step}
 use Rattle.valid_laws.specs.Safe.{SafePlain, SafeTypes, SafeEnds, IsMemref, IsCount, SafeChunks, new_home, SafeNest}
 use Rattle.valid_laws.proofs.Passing.{Holds as Passes, judged_passed, then_passed, plain_holds, loop_holds}
 use Rattle.valid_laws.proofs.SafeHolds.{plain_stands, turn_stands}

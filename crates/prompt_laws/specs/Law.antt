@@ -7,7 +7,7 @@ use Rattle.affine_ast.specs.Validity.{IsValid}
 use Rattle.direct_meaning.specs.Direct.{plain, verdict_of, state_of}
 use Rattle.direct_meaning.specs.Memory.{Fits, module_actions}
 use Rattle.direct_meaning.specs.Work.{work}
-use Rattle.prompt_meaning.specs.Prompt.{prompt_step, first_device, prompt, prompt_slow}
+use Rattle.prompt_semantics.specs.Prompt.{prompt_step, first_device, prompt, prompt_slow}
 use Rattle.run_laws.specs.StaysFitting.{FitsWith}
 use Rattle.prompt_laws.specs.Along.{Along}
 use Rattle.prompt_laws.specs.Costs.{costs}

@@ -6,7 +6,7 @@ use Rattle.affine_ast.specs.Sizes.{product}
 use Rattle.bus_model.specs.declared.transfer.Transfer.{Transfer}
 use Rattle.bus_model.specs.Places.{slow_place}
 use Rattle.direct_meaning.specs.Action.{Place, Slow, Fast, Outside, Action, Loads, Stores, Allocates, Releases, Starts}
-use Rattle.prompt_meaning.specs.Device.{Device, is_started}
+use Rattle.prompt_semantics.specs.Device.{Device, is_started}
 use Rattle.run_parts.specs.Settled.{settled, CanSettle}
 use Rattle.prompt_laws.specs.Rooms.{Room, room_of, room_at}
 

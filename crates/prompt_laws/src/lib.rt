@@ -1,7 +1,7 @@
 //! Laws of the runs of a valid module by its prompt meaning: what an executor may rely on at each action, that the memory fits the
 //! module again, and that the steps are no more than the work.
 //!
-//! `run_prompt`, the machine of all orders and the runner cite them. The crate stands on `prompt_meaning` and on the laws of valid
+//! `run_prompt`, the machine of all orders and the runner cite them. The crate stands on `prompt_semantics` and on the laws of valid
 //! modules.
 #![tactic(auto)]
 

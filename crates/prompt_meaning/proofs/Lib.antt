@@ -1,1 +1,6 @@
-pub mod Laws
+pub mod Copying
+pub mod Agreement
+pub mod Starting
+pub mod Loop
+pub mod Modules
+pub mod Adding

@@ -1,2 +1,5 @@
-pub mod Device
-pub mod Prompt
+pub mod Memrefs
+pub mod Held
+pub mod Steps
+pub mod Takes
+pub mod Runs

@@ -4,8 +4,8 @@ use Rattle.affine_ast.specs.declared.name.Name.{Name}
 use Rattle.direct_meaning.specs.Action.{Action}
 use Rattle.direct_meaning.specs.Actions.{actions}
 use Rattle.direct_meaning.specs.Direct.{Outcome, End, Fault, then_do, folded}
-use Rattle.prompt_meaning.specs.Device.{Device}
-use Rattle.prompt_meaning.specs.Prompt.{prompt_step}
+use Rattle.prompt_semantics.specs.Device.{Device}
+use Rattle.prompt_semantics.specs.Prompt.{prompt_step}
 use Rattle.placement_texts.specs.Renamed.{action_named, KeepsApart}
 use Rattle.rename_laws.specs.Law.{SameUnder, SameOutcome, RunsNamed}
 use Rattle.rename_laws.proofs.Actions.{actions_are}

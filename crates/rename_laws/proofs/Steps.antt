@@ -11,8 +11,8 @@ use Rattle.bus_model.specs.declared.transfer.Transfer.{Transfer}
 use Rattle.direct_meaning.specs.Action.{Home, Place, Slow, Fast, Outside, Operand, Number, Register, Action, Known, Sets, Loads, Stores, RawLoads, RawStores, Operates, Converts, Allocates, Releases, AllocatesTags, ReleasesTags, Starts, Waits, Faults, Returns}
 use Rattle.direct_meaning.specs.Static.{place_at}
 use Rattle.direct_meaning.specs.Direct.{Outcome, End, Fault, keep, read, raw_place, keep_result, direct_step}
-use Rattle.prompt_meaning.specs.Device.{Device, bytes_of, allocated, is_away, has_away, is_started, has_started, load_races, store_races, start_races, copied_in, copied_out, recorded, started, record_of, without}
-use Rattle.prompt_meaning.specs.Prompt.{carried, refused, prompt_load, prompt_store, prompt_alloc, prompt_start, wait_on, acts, prompt_step}
+use Rattle.prompt_semantics.specs.Device.{Device, bytes_of, allocated, is_away, has_away, is_started, has_started, load_races, store_races, start_races, copied_in, copied_out, recorded, started, record_of, without}
+use Rattle.prompt_semantics.specs.Prompt.{carried, refused, prompt_load, prompt_store, prompt_alloc, prompt_start, wait_on, acts, prompt_step}
 use Rattle.placement_texts.specs.Renamed.{operand_named, action_named, KeepsApart}
 use Rattle.rename_laws.specs.Law.{SameUnder, SameOutcome}
 use Rattle.rename_laws.proofs.Owns.{OwnOp, OwnOps, OwnAct}

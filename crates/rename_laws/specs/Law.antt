@@ -7,8 +7,8 @@ use Rattle.direct_meaning.specs.Actions.{actions}
 use Rattle.direct_meaning.specs.Direct.{Outcome, End, Fault, folded}
 use Rattle.direct_meaning.specs.Static.{Env}
 use Rattle.placement_texts.specs.Own.{OwnNest}
-use Rattle.prompt_meaning.specs.Device.{Device}
-use Rattle.prompt_meaning.specs.Prompt.{prompt_step}
+use Rattle.prompt_semantics.specs.Device.{Device}
+use Rattle.prompt_semantics.specs.Prompt.{prompt_step}
 
 -- two devices that differ in names alone: what the names of a text hold, the others hold under the new names
 pub record SameUnder (f : Name → Name) (own : Name → Bool) (x y : Device) : Type 0 where

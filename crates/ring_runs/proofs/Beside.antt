@@ -7,7 +7,7 @@ use Rattle.bus_model.specs.declared.transfer.Transfer.{Transfer}
 use Rattle.bus_model.specs.Places.{slow_place}
 use Rattle.direct_meaning.specs.Actions.{half_cells}
 use Rattle.direct_meaning.specs.Action.{Place, Slow, Fast, Outside, Allocates, AllocatesTags, Releases, ReleasesTags, Starts}
-use Rattle.prompt_meaning.specs.Device.{without}
+use Rattle.prompt_semantics.specs.Device.{without}
 use Rattle.step_runs.specs.Stage.{Half, Stage, moved_to, place_in, image, slow_end, fast_end, is_target}
 use Rattle.step_runs.specs.Steps.{Each, Both, cells_of, behind, after_both, tag_meets, half_meets, race_meets, Clear, Sound, CanCopy, CanStart, CanWait, AllowedBoth, AvoidsStart, Goes}
 use Rattle.ring_runs.specs.Template.{written}

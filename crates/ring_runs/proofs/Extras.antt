@@ -21,8 +21,8 @@ use Rattle.affine_ast.specs.declared.name.Name.{Name}
 use Rattle.bus_model.specs.declared.step.FaultKind.{FaultKind}
 use Rattle.bus_model.specs.declared.step.FaultKind.TheVariants.{Touched, Race, Tag, Capacity, Shape}
 use Rattle.direct_meaning.specs.Direct.{Outcome, End, Fault, then_do, folded, State}
-use Rattle.prompt_meaning.specs.Device.{Device, bytes_of, allocated, is_started, is_away, has_away, has_started, load_races, start_races, store_races, copied_in, copied_out, started, record_of, without}
-use Rattle.prompt_meaning.specs.Prompt.{carried, refused, prompt_load, prompt_store, prompt_alloc, prompt_start, wait_on, acts, prompt_step}
+use Rattle.prompt_semantics.specs.Device.{Device, bytes_of, allocated, is_started, is_away, has_away, has_started, load_races, start_races, store_races, copied_in, copied_out, started, record_of, without}
+use Rattle.prompt_semantics.specs.Prompt.{carried, refused, prompt_load, prompt_store, prompt_alloc, prompt_start, wait_on, acts, prompt_step}
 use Rattle.step_runs.specs.Stage.{Stage, value_at, moved_to}
 use Rattle.step_runs.specs.Related.{Related}
 use Rattle.loop_forms.specs.Split.{prologue_end}

@@ -8,8 +8,8 @@ use Rattle.bus_model.specs.declared.transfer.Transfer.{Transfer}
 use Rattle.direct_meaning.specs.Turns.{turns}
 use Rattle.direct_meaning.specs.Action.{Action}
 use Rattle.direct_meaning.specs.Direct.{folded}
-use Rattle.prompt_meaning.specs.Device.{Device}
-use Rattle.prompt_meaning.specs.Prompt.{prompt_step}
+use Rattle.prompt_semantics.specs.Device.{Device}
+use Rattle.prompt_semantics.specs.Prompt.{prompt_step}
 use Rattle.step_runs.specs.Stage.{Stage}
 use Rattle.step_runs.specs.Steps.{Step, first_of, second_of, first_list, second_list}
 use Rattle.step_runs.specs.Related.{Related, Ends}

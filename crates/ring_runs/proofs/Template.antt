@@ -7,7 +7,7 @@ use Rattle.bus_model.specs.declared.transfer.Transfer.{Transfer}
 use Rattle.bus_model.specs.Places.{slow_place}
 use Rattle.direct_meaning.specs.Actions.{half_cells}
 use Rattle.direct_meaning.specs.Action.{Place, Slow, Fast, Outside, Allocates, AllocatesTags, Starts}
-use Rattle.prompt_meaning.specs.Device.{without}
+use Rattle.prompt_semantics.specs.Device.{without}
 use Rattle.step_runs.specs.Stage.{Half, Stage, moved_to, place_in, image, slow_end, fast_end, source, target, is_target}
 use Rattle.step_runs.specs.Steps.{Each, Step, Alone, Joins, Leaves, Late, first_half, with_out, less_out, behind, after_alone, after_both, tag_meets, half_meets, race_meets, Sound, CanCopy, CanStart, CanJoin, CanWait, CanLeave, AvoidsAll, Goes}
 use Rattle.ring_runs.specs.Facts.{IsPlaced, RingFacts}

@@ -4,8 +4,8 @@ use Rattle.bus_model.specs.declared.transfer.Transfer.{Transfer}
 use Rattle.direct_meaning.specs.Turns.{turns}
 use Rattle.direct_meaning.specs.Action.{Action}
 use Rattle.direct_meaning.specs.Direct.{folded}
-use Rattle.prompt_meaning.specs.Device.{Device}
-use Rattle.prompt_meaning.specs.Prompt.{prompt_step}
+use Rattle.prompt_semantics.specs.Device.{Device}
+use Rattle.prompt_semantics.specs.Prompt.{prompt_step}
 use Rattle.loop_forms.specs.Split.{prologue_end, main_end, epilogue_begin}
 use Rattle.loop_forms.specs.Stepped.{turn_total}
 use Rattle.step_runs.specs.Stage.{Stage}

@@ -12,8 +12,8 @@ use Rattle.bus_model.specs.Places.{slow_place}
 use Rattle.direct_meaning.specs.Action.{Place, Slow, Fast, Outside, Allocates, Releases, AllocatesTags, ReleasesTags}
 use Rattle.direct_meaning.specs.Direct.{folded}
 use Rattle.bus_model.specs.Copies.{number_at}
-use Rattle.prompt_meaning.specs.Device.{Device, bytes_of}
-use Rattle.prompt_meaning.specs.Prompt.{prompt_step}
+use Rattle.prompt_semantics.specs.Device.{Device, bytes_of}
+use Rattle.prompt_semantics.specs.Prompt.{prompt_step}
 use Rattle.step_runs.specs.Stage.{Stage, value_at, room_by, HasRoom, place_in, image, is_target}
 use Rattle.step_runs.specs.Steps.{Each, Step, Made, Becomes, cells_of, first_half, first_list, second_list, less_out, Clear, load_meets, store_meets, Sound, IsSeenFrom, AvoidsStart, AvoidsAll, Goes, behind}
 use Rattle.step_runs.specs.Related.{Related, Ends}

@@ -5,8 +5,8 @@ use Rattle.affine_ast.specs.declared.name.Name.{Name}
 use Rattle.int_ops.specs.Wrapped.{wrapped, unsigned}
 use Rattle.bus_model.specs.Places.{slow_place}
 use Rattle.direct_meaning.specs.Direct.{folded, read, direct_step}
-use Rattle.prompt_meaning.specs.Device.{put_half, put_halves, started}
-use Rattle.prompt_meaning.specs.Prompt.{acts, prompt_step}
+use Rattle.prompt_semantics.specs.Device.{put_half, put_halves, started}
+use Rattle.prompt_semantics.specs.Prompt.{acts, prompt_step}
 use Rattle.step_runs.specs.Steps.{first_list, second_list}
 use Rattle.ring_samples.specs.Example.{example, brought_ahead}
 use Rattle.ring_samples.specs.Mixed.{ring_moves}

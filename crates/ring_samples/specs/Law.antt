@@ -6,8 +6,8 @@ use Rattle.affine_ast.specs.declared.types.Element.TheVariants.{I32}
 use Rattle.bus_model.specs.declared.step.Verdict.TheVariants as verdict
 use Rattle.direct_meaning.specs.Action.{Action}
 use Rattle.direct_meaning.specs.Direct.{folded, verdict_of, state_of}
-use Rattle.prompt_meaning.specs.Device.{Device, bytes_of}
-use Rattle.prompt_meaning.specs.Prompt.{prompt_step}
+use Rattle.prompt_semantics.specs.Device.{Device, bytes_of}
+use Rattle.prompt_semantics.specs.Prompt.{prompt_step}
 use Rattle.step_runs.specs.Steps.{first_list, second_list, behind}
 use Rattle.step_runs.specs.Related.{Related, Ends}
 use Rattle.ring_runs.specs.Ring.{IsRing}

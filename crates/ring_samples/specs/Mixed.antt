@@ -4,7 +4,7 @@ use Rattle.std.specs.Prelude.{ℕ, suc, ◌+◌, ◌*◌, Bool, false, ◌&&◌,
 use Rattle.affine_ast.specs.declared.name.Name.{Name}
 use Rattle.affine_ast.specs.declared.types.Element.TheVariants.{I32}
 use Rattle.bus_model.specs.declared.transfer.Transfer.{Transfer}
-use Rattle.prompt_meaning.specs.Device.{bytes_of}
+use Rattle.prompt_semantics.specs.Device.{bytes_of}
 use Rattle.direct_meaning.specs.Action.{Place, Slow, Fast, Outside, Register, Action, Loads, Stores}
 use Rattle.step_runs.specs.Stage.{Stage}
 use Rattle.step_runs.specs.Steps.{Step, Leaves, Becomes}

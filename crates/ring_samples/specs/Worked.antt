@@ -3,7 +3,7 @@ use Rattle.std.specs.Prelude.{ℤ, pos, List, [], ◌∷◌, ◌++◌}
 use Rattle.affine_ast.specs.declared.name.Name.{Name}
 use Rattle.affine_ast.specs.declared.types.Element.TheVariants.{I32}
 use Rattle.direct_meaning.specs.Action.{Allocates, AllocatesTags, Releases, ReleasesTags}
-use Rattle.prompt_meaning.specs.Device.{Device}
+use Rattle.prompt_semantics.specs.Device.{Device}
 use Rattle.step_runs.specs.Steps.{Step, Made}
 use Rattle.ring_runs.specs.Ring.{ring_loop}
 use Rattle.ring_runs.specs.Facts.{starts_of}

@@ -6,8 +6,8 @@ use Rattle.bus_model.specs.declared.step.FaultKind.{FaultKind}
 use Rattle.bus_model.specs.declared.step.Verdict.TheVariants as verdict
 use Rattle.direct_meaning.specs.Direct.{Outcome, State, End, Fault, plain}
 use Rattle.direct_meaning.specs.Memory.{FitsArgs, Fits}
-use Rattle.prompt_meaning.specs.Device.{Device}
-use Rattle.prompt_meaning.specs.Prompt.{prompt, prompt_verdict, prompt_slow}
+use Rattle.prompt_semantics.specs.Device.{Device}
+use Rattle.prompt_semantics.specs.Prompt.{prompt, prompt_verdict, prompt_slow}
 use Rattle.box_run_laws.specs.Law.{Agrees}
 use Rattle.normal_texts.proofs.Texts.{normal_is_the_same}
 use Rattle.numbered_names.proofs.Laws.{numbered_valid, numbered_runs, numbered_fits}

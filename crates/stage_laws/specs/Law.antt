@@ -7,7 +7,7 @@ use Rattle.affine_ast.specs.Validity.{IsValid}
 use Rattle.affine_grammar.specs.Spelling.{Spells}
 use Rattle.direct_meaning.specs.Direct.{plain}
 use Rattle.direct_meaning.specs.Memory.{Fits}
-use Rattle.prompt_meaning.specs.Prompt.{prompt}
+use Rattle.prompt_semantics.specs.Prompt.{prompt}
 use Rattle.box_run_laws.specs.Law.{Agrees}
 use Rattle.nest_domain.specs.declared.plan.Options.{Options}
 use Rattle.normal_texts.specs.Texts.{IsNormal}

@@ -9,7 +9,7 @@ use Rattle.affine_ast.specs.Validity.{IsValid}
 use Rattle.direct_meaning.specs.Actions.{actions}
 use Rattle.direct_meaning.specs.Direct.{folded, first_state, direct_step}
 use Rattle.direct_meaning.specs.Memory.{Fits, start_env}
-use Rattle.prompt_meaning.specs.Prompt.{prompt_step, first_device}
+use Rattle.prompt_semantics.specs.Prompt.{prompt_step, first_device}
 use Rattle.boxes.specs.Every.{Every}
 use Rattle.box_run_laws.specs.Law.{Agrees}
 use Rattle.box_run_laws.specs.Roomy.{most_live}

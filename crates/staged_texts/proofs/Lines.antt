@@ -15,7 +15,7 @@ use Rattle.direct_meaning.specs.Action.{Action}
 use Rattle.direct_meaning.specs.Actions.{action_of, after_plain, fasts_of_plain, tags_of_plain, fasts_in, tags_in, behind, actions}
 use Rattle.direct_meaning.specs.Memory.{Placed, place_arg, empty_env, start_env, module_actions}
 use Rattle.direct_meaning.specs.Direct.{folded}
-use Rattle.prompt_meaning.specs.Prompt.{prompt, prompt_step, first_device}
+use Rattle.prompt_semantics.specs.Prompt.{prompt, prompt_step, first_device}
 use Rattle.printed_texts.specs.Lines.{unlined, unlined_argument, AreSameButLines}
 
 -- ---- deallocs

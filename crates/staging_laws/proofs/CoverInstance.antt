@@ -22,7 +22,7 @@ use Rattle.direct_meaning.specs.Static.{knows, number, results_of, operand, cell
 use Rattle.direct_meaning.specs.Actions.{action_of, actions}
 use Rattle.direct_meaning.specs.Direct.{folded, first_state}
 use Rattle.direct_meaning.proofs.Laws.{turns_more, turns_end}
-use Rattle.prompt_meaning.specs.Prompt.{first_device}
+use Rattle.prompt_semantics.specs.Prompt.{first_device}
 use Rattle.placement_texts.specs.Boxes.{InBox}
 use Rattle.boxes.specs.Every.{Every}
 use Rattle.placement_texts.specs.Each.{Each}

@@ -9,7 +9,7 @@ use Rattle.direct_meaning.specs.Action.{SlowMemref, Action}
 use Rattle.direct_meaning.specs.Static.{Env, knows, lower_of, upper_of, cell_in, results_of, slow_at, place_at, place_of}
 use Rattle.direct_meaning.specs.Actions.{action_of, actions}
 use Rattle.direct_meaning.specs.Direct.{folded, first_state, direct_step}
-use Rattle.prompt_meaning.specs.Prompt.{prompt_step, first_device}
+use Rattle.prompt_semantics.specs.Prompt.{prompt_step, first_device}
 use Rattle.boxes.specs.Every.{Every}
 use Rattle.placement_texts.specs.Each.{Each}
 use Rattle.placement_texts.specs.Spots.{Here, Inside, staged_at}

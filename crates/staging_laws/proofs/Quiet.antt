@@ -9,7 +9,7 @@ use Rattle.affine_ast.specs.declared.types.MemrefType.{MemrefType}
 use Rattle.affine_ast.specs.declared.types.Scalar.{Scalar}
 use Rattle.affine_ast.specs.declared.types.Scalar.TheVariants.{Int, Index}
 use Rattle.affine_ast.specs.Nest.{Plain, Nest, Nothing, Loop, Branch, Does, Value, Load, Store, RawLoad, RawStore, Constant, Binary, Cast, Alloc, Dealloc, Start, Wait, Return}
-use Rattle.prompt_meaning.specs.Device.{without}
+use Rattle.prompt_semantics.specs.Device.{without}
 use Rattle.direct_meaning.specs.Turns.{turns, gap}
 use Rattle.direct_meaning.specs.Action.{Home, SlowMemref, FastMemref, TagMemref, Action, Allocates, AllocatesTags}
 use Rattle.direct_meaning.specs.Static.{Env, knows, number, tag_of, lower_of, upper_of, holds_at, product}

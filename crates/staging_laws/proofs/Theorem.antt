@@ -7,7 +7,7 @@ use Rattle.direct_meaning.specs.Action.{Action}
 use Rattle.direct_meaning.specs.Static.{Env}
 use Rattle.direct_meaning.specs.Actions.{actions}
 use Rattle.direct_meaning.specs.Direct.{folded, first_state}
-use Rattle.prompt_meaning.specs.Prompt.{first_device}
+use Rattle.prompt_semantics.specs.Prompt.{first_device}
 use Rattle.boxes.specs.Boxes.{stride_of, chunk_of, is_mixed}
 use Rattle.boxes.specs.Boxes.{Side}
 use Rattle.placement_texts.specs.Labels.{Numbers}

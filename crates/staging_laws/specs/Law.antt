@@ -7,7 +7,7 @@ use Rattle.affine_ast.specs.Sizes.{product}
 use Rattle.direct_meaning.specs.Static.{Env}
 use Rattle.direct_meaning.specs.Actions.{actions}
 use Rattle.direct_meaning.specs.Direct.{folded, first_state, direct_step}
-use Rattle.prompt_meaning.specs.Prompt.{prompt_step, first_device}
+use Rattle.prompt_semantics.specs.Prompt.{prompt_step, first_device}
 use Rattle.boxes.specs.Boxes.{Side}
 use Rattle.placement_texts.specs.Labels.{Numbers}
 use Rattle.placement_texts.specs.Own.{OwnNest}

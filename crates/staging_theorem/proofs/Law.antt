@@ -4,7 +4,7 @@ use Rattle.affine_ast.specs.declared.image.Image.{Image}
 use Rattle.affine_ast.specs.declared.module.Module.{Module}
 use Rattle.direct_meaning.specs.Direct.{plain}
 use Rattle.direct_meaning.specs.Memory.{FitsArgs, Fits, module_actions}
-use Rattle.prompt_meaning.specs.Prompt.{prompt}
+use Rattle.prompt_semantics.specs.Prompt.{prompt}
 use Rattle.box_run_laws.specs.Law.{Agrees}
 use Rattle.box_run_laws.specs.Roomy.{most_live}
 use Rattle.peak_laws.specs.Peak.{peak}

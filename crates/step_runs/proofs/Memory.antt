@@ -13,8 +13,8 @@ use Rattle.affine_ast.specs.declared.types.Element.{Element}
 use Rattle.int_ops.specs.Wrapped.{wrapped}
 use Rattle.direct_meaning.specs.Static.{element_bits}
 use Rattle.direct_meaning.specs.Actions.{half_cells}
-use Rattle.prompt_meaning.specs.Device.{Device, copied_in, copied_out, allocated, fresh_half}
-use Rattle.prompt_meaning.proofs.Laws.{half_same, half_other, halves_same, halves_other}
+use Rattle.prompt_semantics.specs.Device.{Device, copied_in, copied_out, allocated, fresh_half}
+use Rattle.prompt_semantics.proofs.Laws.{half_same, half_other, halves_same, halves_other}
 use Rattle.step_runs.specs.Stage.{value_at, HasRoom, stored_at, same_place, slow_end, fast_end, source, target, fast_target, slow_target, is_target, copied}
 
 itself : (n h : ℕ) → (nat_eq n n && nat_eq h h) ≡ true

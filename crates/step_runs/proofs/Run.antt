@@ -23,8 +23,8 @@ use Rattle.direct_meaning.specs.Actions.{half_cells}
 use Rattle.direct_meaning.specs.Action.{Place, Slow, Fast, Outside, Operand, Action, Known, Sets, Loads, Stores, RawLoads, RawStores, Operates, Converts, Allocates, Releases, AllocatesTags, ReleasesTags, Starts, Waits, Faults, Returns}
 use Rattle.direct_meaning.specs.Direct.{Outcome, End, Fault, then_do, folded, keep, read, raw_place, keep_result, direct_step}
 use Rattle.direct_meaning.proofs.Laws.{folded-append}
-use Rattle.prompt_meaning.specs.Device.{Device, bytes_of, allocated, released, is_started, is_away, has_away, has_started, start_races, recorded, started, record_of, without}
-use Rattle.prompt_meaning.specs.Prompt.{carried, refused, prompt_load, prompt_store, prompt_alloc, prompt_start, wait_on, acts, prompt_step}
+use Rattle.prompt_semantics.specs.Device.{Device, bytes_of, allocated, released, is_started, is_away, has_away, has_started, start_races, recorded, started, record_of, without}
+use Rattle.prompt_semantics.specs.Prompt.{carried, refused, prompt_load, prompt_store, prompt_alloc, prompt_start, wait_on, acts, prompt_step}
 use Rattle.step_runs.specs.Stage.{Half, Cell, value_at, HasRoom, stored_at, same_place, slow_end, fast_end, source, target, is_target, copied, Stage, moved_to, place_in, image}
 use Rattle.step_runs.specs.Woven.{Woven}
 use Rattle.step_runs.specs.Steps.{Each, Step, Both, Alone, Made, Ahead, Joins, Leaves, Late, Brings, Takes, Becomes, first_of, second_of, first_list, second_list, with_out, less_out, cells_of, first_half, after_both, after_alone, after_made, next, behind, home_in, moved, load_meets, store_meets, tag_meets, half_meets, race_meets, Clear, Sound, CanStore, MayLoad, MayStore, CanCopy, CanStart, CanJoin, CanWait, IsSeenFrom, AllowedBoth, AllowedAlone, AllowedMade, CanRunAhead, CanLeave, CanBring, CanTake, Allowed, Goes}

@@ -4,7 +4,7 @@ use Rattle.std.specs.Prelude.{◌&&◌, ◌||◌, Some, None, nat_eq, if◌then�
 use Rattle.std.specs.List.{list_any}
 use Rattle.std.proofs.lemmas.Bool.{eqb-true, eqb-false, eq-eqb, ne_eqb, and_parts}
 use Rattle.bus_model.specs.declared.transfer.Transfer.{Transfer}
-use Rattle.prompt_meaning.specs.Device.{is_started, record_of, without}
+use Rattle.prompt_semantics.specs.Device.{is_started, record_of, without}
 use Rattle.step_runs.specs.Steps.{Each, with_out, less_out}
 use Rattle.step_runs.specs.Woven as woven
 

@@ -2,8 +2,8 @@
 use Rattle.std.specs.Prelude.{ℕ, ℤ, List}
 use Rattle.bus_model.specs.declared.transfer.Transfer.{Transfer}
 use Rattle.direct_meaning.specs.Direct.{folded}
-use Rattle.prompt_meaning.specs.Device.{Device}
-use Rattle.prompt_meaning.specs.Prompt.{prompt_step}
+use Rattle.prompt_semantics.specs.Device.{Device}
+use Rattle.prompt_semantics.specs.Prompt.{prompt_step}
 use Rattle.step_runs.specs.Stage.{Stage}
 use Rattle.step_runs.specs.Steps.{Step, first_list, second_list, behind, Goes}
 use Rattle.step_runs.specs.Related.{Related, Ends}

@@ -6,7 +6,7 @@ use Rattle.bus_model.specs.declared.transfer.Transfer.{Transfer}
 use Rattle.bus_model.specs.Copies.{number_at}
 use Rattle.direct_meaning.specs.Action.{Place}
 use Rattle.direct_meaning.specs.Direct.{Outcome, End, Fault}
-use Rattle.prompt_meaning.specs.Device.{Device}
+use Rattle.prompt_semantics.specs.Device.{Device}
 use Rattle.step_runs.specs.Stage.{value_at, HasRoom, slow_end, fast_end, Stage, place_in, image}
 use Rattle.step_runs.specs.Woven.{Woven}
 

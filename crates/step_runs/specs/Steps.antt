@@ -6,7 +6,7 @@ use Rattle.direct_meaning.specs.Transfers.{overlap}
 use Rattle.direct_meaning.specs.Static.{place_at}
 use Rattle.direct_meaning.specs.Actions.{half_cells}
 use Rattle.direct_meaning.specs.Action.{Home, SlowMemref, FastMemref, TagMemref, Place, Slow, Fast, Outside, Action, Known, Loads, Stores, RawLoads, RawStores, Allocates, Releases, AllocatesTags, ReleasesTags, Starts, Waits}
-use Rattle.prompt_meaning.specs.Device.{bytes_of, without}
+use Rattle.prompt_semantics.specs.Device.{bytes_of, without}
 use Rattle.step_runs.specs.Stage.{Cell, Stage, same_place, place_in, image, source, target, is_target, slow_end, fast_end}
 
 -- P of each member

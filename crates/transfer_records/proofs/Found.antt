@@ -4,7 +4,7 @@ use Rattle.std.specs.Prelude.{◌||◌, nat_eq, Some, None, if◌then◌else◌}
 use Rattle.std.specs.List.{list_any, range_with_len}
 use Rattle.bus_model.specs.declared.transfer.Transfer.{Transfer}
 use Rattle.std.proofs.Common.{eq-eqb}
-use Rattle.prompt_meaning.specs.Device.{is_started, record_of, without}
+use Rattle.prompt_semantics.specs.Device.{is_started, record_of, without}
 use Rattle.transfer_records.specs.Found.{Finds}
 
 module _ {X : Type 0} (p : X → Bool) where

@@ -3,7 +3,7 @@ use Rattle.std.specs.Prelude.{◌≡◌, ℕ, ◌<◌, ◌≤◌, ◌^◌, true,
 use Rattle.std.specs.List.{remove}
 use Rattle.bus_model.specs.declared.transfer.Transfer.{Transfer}
 use Rattle.bus_model.specs.Places.{slow_place}
-use Rattle.prompt_meaning.specs.Device.{is_started, record_of, without}
+use Rattle.prompt_semantics.specs.Device.{is_started, record_of, without}
 
 -- the places of its elements can be computed
 pub record HasPlaces (t : Transfer) : Type 0 where

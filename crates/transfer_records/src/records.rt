@@ -1,7 +1,7 @@
 // What is asked of the outstanding transfers.
 ghost use Rattle.std.specs.Prelude.{◌≡◌};
 ghost use Rattle.std.specs.List.{All};
-ghost use Rattle.prompt_meaning.specs.Device.{is_away, has_away, is_started, has_started, load_races, store_races, start_races};
+ghost use Rattle.prompt_semantics.specs.Device.{is_away, has_away, is_started, has_started, load_races, store_races, start_races};
 ghost use Rattle.transfer_records.specs.Found.{Finds, HasPlaces};
 
 use crate::meeting::{has_place, overlap};

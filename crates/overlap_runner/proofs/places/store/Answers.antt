@@ -3,7 +3,7 @@ use Rattle.std.proofs.lemmas.Int.{to_z-of_z}
 use Rattle.direct_meaning.specs.Action.{Slow, Fast}
 use Rattle.std.specs.Prelude.{Err}
 use Rattle.bus_model.specs.declared.step.FaultKind.TheVariants.{Bounds}
-use Rattle.prompt_meaning.specs.Prompt.{prompt_store}
+use Rattle.prompt_semantics.specs.Prompt.{prompt_store}
 use Rattle.walk_actions.specs.Meant.{place_meant}
 use Rattle.overlap_memory.specs.Tied.{Follows}
 use Rattle.overlap_runner.specs.Held.{PlaceReached}

@@ -2,7 +2,7 @@ use Rattle.std.proofs.Common.{◌≡◌, ◌∙◌, sym, subst}
 use Rattle.walk_actions.specs.Meant.{meant}
 use Rattle.direct_meaning.specs.Direct.{End, Fault}
 use Rattle.run_parts.specs.declared.effect.Effect.TheVariants as effect
-use Rattle.prompt_run.proofs.Loop.{fold_with, fold_is, none_left}
+use Rattle.prompt_meaning.proofs.Loop.{fold_with, fold_is, none_left}
 use Rattle.overlap_runner.specs.declared.device.Device.{Device}
 use Rattle.overlap_runner.specs.Held.{shape_after}
 use Rattle.overlap_runner.specs.Runs.{StandsAt}

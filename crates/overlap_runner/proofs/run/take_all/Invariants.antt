@@ -1,7 +1,7 @@
 use Rattle.std.proofs.Common.{◌≡◌, List, length}
 use Rattle.direct_meaning.specs.Direct.{folded}
-use Rattle.prompt_meaning.specs.Device as model
-use Rattle.prompt_meaning.specs.Prompt.{prompt_step}
+use Rattle.prompt_semantics.specs.Device as model
+use Rattle.prompt_semantics.specs.Prompt.{prompt_step}
 use Rattle.prompt_laws.specs.Rooms.{Room}
 use Rattle.overlap_memory.specs.Tied.{FastShape}
 use Rattle.overlap_runner.specs.Follow.{Same}

@@ -1,6 +1,6 @@
 use Rattle.std.proofs.Common.{◌≤◌, length, arith, subst, false, ◌≡◌}
 use Rattle.std.proofs.lemmas.List.{take_all}
-use Rattle.prompt_meaning.specs.Device.{is_started}
+use Rattle.prompt_semantics.specs.Device.{is_started}
 use Rattle.transfer_records.proofs.Found.{found, found_none}
 use Rattle.transfer_records.proofs.records.find.Goals as goal
 

@@ -1,5 +1,5 @@
 use Rattle.std.proofs.Common.{◌≡◌, take, false}
-use Rattle.prompt_meaning.specs.Device.{is_started}
+use Rattle.prompt_semantics.specs.Device.{is_started}
 use Rattle.transfer_records.proofs.records.find.Given as goal
 
 -- those so far have other tags

@@ -1,5 +1,5 @@
 use Rattle.std.proofs.Common.{◌≡◌, drop}
-use Rattle.prompt_meaning.specs.Device.{load_races}
+use Rattle.prompt_semantics.specs.Device.{load_races}
 use Rattle.transfer_records.proofs.records.load_races.Given as goal
 
 -- what is left of the transfers tells it

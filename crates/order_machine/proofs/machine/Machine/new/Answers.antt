@@ -3,7 +3,7 @@ use Rattle.std.proofs.lemmas.Int.{to_z-of_z}
 use Rattle.affine_ast.specs.Validity.{IsValid}
 use Rattle.direct_meaning.specs.Memory.{slow_list}
 use Rattle.order_memory.specs.declared.memory.Memory.{Memory}
-use Rattle.prompt_run.proofs.Modules.{safe}
+use Rattle.prompt_meaning.proofs.Modules.{safe}
 use Rattle.order_machine.specs.Orders.{setting}
 use Rattle.order_machine.proofs.Begins.{begins}
 use Rattle.order_machine.proofs.machine.Machine.new.Goals as goal

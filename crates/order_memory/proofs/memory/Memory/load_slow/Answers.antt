@@ -1,7 +1,7 @@
 use Rattle.std.proofs.Common.{pos, rules, ◌∙◌, sym, ap, subst, w64}
 use Rattle.std.specs.List.{All}
 use Rattle.std.proofs.lemmas.Int.{to_z-of_z}
-use Rattle.prompt_meaning.specs.Device.{load_races}
+use Rattle.prompt_semantics.specs.Device.{load_races}
 use Rattle.transfer_records.specs.Found.{HasPlaces}
 use Rattle.fast_rooms.proofs.Flights.{all_have_places}
 use Rattle.order_memory.proofs.Loads.{any_default, slow_races, slow_gives}

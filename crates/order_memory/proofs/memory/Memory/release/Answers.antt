@@ -1,5 +1,5 @@
 use Rattle.std.proofs.Common.{sym, ap, refl, ◌∙◌, ◌-◌}
-use Rattle.prompt_meaning.specs.Device.{has_away}
+use Rattle.prompt_semantics.specs.Device.{has_away}
 use Rattle.order_memory.proofs.Allocs.{release_touched, releases}
 use Rattle.order_memory.proofs.memory.Memory.release.Goals as goal
 

@@ -1,5 +1,5 @@
 use Rattle.std.proofs.Common.{sym, ap, ◌∙◌}
-use Rattle.prompt_meaning.specs.Device.{has_started}
+use Rattle.prompt_semantics.specs.Device.{has_started}
 use Rattle.order_memory.proofs.Allocs.{tags_started, tags_idle}
 use Rattle.order_memory.proofs.memory.Memory.release_tags.Goals as goal
 

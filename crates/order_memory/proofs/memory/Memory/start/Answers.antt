@@ -1,5 +1,5 @@
 use Rattle.std.proofs.Common.{◌≡◌, ◌∙◌, sym, ap, subst, true, false, length, arith}
-use Rattle.prompt_meaning.specs.Device.{is_started, start_races}
+use Rattle.prompt_semantics.specs.Device.{is_started, start_races}
 use Rattle.std.specs.List.{All}
 use Rattle.transfer_records.specs.Found.{HasPlaces}
 use Rattle.fast_rooms.proofs.Flights.{all_have_places}

@@ -1,7 +1,7 @@
 use Rattle.std.proofs.Common.{rules, ◌∙◌, sym, ap, subst, refl, set, w64}
 use Rattle.std.specs.List.{All}
 use Rattle.std.proofs.lemmas.Int.{to_z-of_z}
-use Rattle.prompt_meaning.specs.Device.{store_races}
+use Rattle.prompt_semantics.specs.Device.{store_races}
 use Rattle.transfer_records.specs.Found.{HasPlaces}
 use Rattle.fast_rooms.proofs.Flights.{all_have_places}
 use Rattle.order_memory.proofs.Loads.{store_races_here, store_slow}

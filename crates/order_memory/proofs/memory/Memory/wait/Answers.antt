@@ -1,6 +1,6 @@
 use Rattle.std.proofs.Common.{◌∙◌, sym, ap, subst}
 use Rattle.std.specs.Prelude.{Some}
-use Rattle.prompt_meaning.specs.Device.{record_of}
+use Rattle.prompt_semantics.specs.Device.{record_of}
 use Rattle.transfer_records.specs.Found.{Finds}
 use Rattle.order_memory.proofs.Waits.{wait_idle, wait_shape, wait_passes, wait_found, wait_finished}
 use Rattle.order_memory.proofs.memory.Memory.wait.Goals as goal

@@ -2,7 +2,7 @@ use Rattle.std.proofs.Common.{◌∙◌, sym, ap, subst, arith, refl, length}
 use Rattle.std.specs.Prelude.{slice_get}
 use Rattle.fast_halves.specs.Shape.{HalvesShape, IsAway}
 use Rattle.std.proofs.lemmas.List.Edits.{length-remove}
-use Rattle.prompt_meaning.specs.Device.{record_of}
+use Rattle.prompt_semantics.specs.Device.{record_of}
 use Rattle.overlap_memory.proofs.Changed.{memref_is, changed_is}
 use Rattle.overlap_memory.proofs.Waits.{tag_below, seat_started, memref_there, half_away, half_in, taken_back}
 use Rattle.overlap_memory.proofs.memory.Memory.collect.Goals as goal

@@ -1,5 +1,5 @@
 use Rattle.std.proofs.Common.{◌∙◌, sym}
-use Rattle.prompt_meaning.specs.Device.{without}
+use Rattle.prompt_semantics.specs.Device.{without}
 use Rattle.overlap_memory.proofs.Drains.{all_taken}
 use Rattle.overlap_memory.proofs.memory.Memory.drain.Goals as goal
 

@@ -1,5 +1,5 @@
 use Rattle.std.proofs.Common.{length}
-use Rattle.prompt_meaning.specs.Device.{Device}
+use Rattle.prompt_semantics.specs.Device.{Device}
 use Rattle.overlap_memory.specs.Tied.{Tied, FastShape}
 use Rattle.overlap_memory.proofs.Drains.{Left}
 use Rattle.overlap_memory.proofs.memory.Memory.drain.Given as goal

@@ -1,6 +1,6 @@
 use Rattle.std.proofs.Common.{◌∙◌, sym, ap, subst, arith}
 use Rattle.std.specs.List.{All}
-use Rattle.prompt_meaning.specs.Device.{load_races}
+use Rattle.prompt_semantics.specs.Device.{load_races}
 use Rattle.overlap_memory.specs.Tied.{IsPlaced}
 use Rattle.overlap_memory.proofs.Lists.{have_places}
 use Rattle.overlap_memory.proofs.Slow.{clear_of_out}

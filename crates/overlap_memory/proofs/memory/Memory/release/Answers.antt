@@ -1,5 +1,5 @@
 use Rattle.std.proofs.Common.{sym, ap, ◌∙◌}
-use Rattle.prompt_meaning.specs.Device.{has_away}
+use Rattle.prompt_semantics.specs.Device.{has_away}
 use Rattle.overlap_memory.proofs.Allocs.{release_follows}
 use Rattle.overlap_memory.proofs.memory.Memory.release.Goals as goal
 

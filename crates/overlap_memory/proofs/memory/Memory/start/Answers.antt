@@ -1,6 +1,6 @@
 use Rattle.std.proofs.Common.{◌∙◌, sym, ap, subst, arith}
 use Rattle.std.specs.List.{All}
-use Rattle.prompt_meaning.specs.Device.{is_started, is_away, start_races, started}
+use Rattle.prompt_semantics.specs.Device.{is_started, is_away, start_races, started}
 use Rattle.overlap_memory.proofs.Lists.{have_places}
 use Rattle.overlap_memory.proofs.Starts.{start_passes}
 use Rattle.overlap_memory.specs.Tied.{IsPlaced}

@@ -4,8 +4,8 @@ use Rattle.std.specs.Prelude.{Ok}
 use Rattle.std.specs.List.{All}
 use Rattle.tag_table.specs.Shapes.{with_word}
 use Rattle.direct_meaning.specs.Action.{Slow}
-use Rattle.prompt_meaning.specs.Device.{store_races}
-use Rattle.prompt_meaning.specs.Prompt.{prompt_store}
+use Rattle.prompt_semantics.specs.Device.{store_races}
+use Rattle.prompt_semantics.specs.Prompt.{prompt_store}
 use Rattle.overlap_memory.specs.Tied.{IsPlaced, Follows}
 use Rattle.overlap_memory.proofs.Lists.{have_places}
 use Rattle.overlap_memory.proofs.Slow.{clear_of_all, store_follows}

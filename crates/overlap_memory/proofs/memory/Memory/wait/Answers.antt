@@ -1,5 +1,5 @@
 use Rattle.std.proofs.Common.{◌∙◌, sym, ap}
-use Rattle.prompt_meaning.specs.Device.{record_of, without}
+use Rattle.prompt_semantics.specs.Device.{record_of, without}
 use Rattle.overlap_memory.proofs.Drains.{wait_passes}
 use Rattle.overlap_memory.proofs.memory.Memory.wait.Goals as goal
 

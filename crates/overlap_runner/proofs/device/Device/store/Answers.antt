@@ -1,6 +1,6 @@
 use Rattle.std.proofs.Common.{rules, w64, refl, subst}
 use Rattle.std.proofs.lemmas.Int.{to_z-of_z}
-use Rattle.prompt_meaning.specs.Prompt.{prompt_store}
+use Rattle.prompt_semantics.specs.Prompt.{prompt_store}
 use Rattle.overlap_memory.specs.Tied.{Follows}
 use Rattle.walk_actions.specs.Meant.{place_meant}
 use Rattle.overlap_runner.proofs.Taken.{store_reached, stores}

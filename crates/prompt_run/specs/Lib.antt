@@ -1,5 +1,0 @@
-pub mod Memrefs
-pub mod Held
-pub mod Steps
-pub mod Takes
-pub mod Runs
