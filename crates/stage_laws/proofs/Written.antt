@@ -17,7 +17,7 @@ use Rattle.affine_ast.specs.PlainLimits.{operand_count, depths, is_short, access
 use Rattle.affine_grammar.specs.Spelling.{Spells}
 use Rattle.printed_texts.specs.Nesting.{printed_nesting, zeros, nests_within, AllNest, RowsNest, UseNests, BoundNests, PlainNests, StatementsNest, ModuleNests}
 use Rattle.printed_texts.specs.Writable as writable
-use Rattle.printed_texts.specs.Writable.{AllWritten, BoundFits, PlainFits, StatementsFit, ArgumentsFit}
+use Rattle.printed_texts.specs.Writable.{AllWritten, BoundFits, PlainFits, StatementsFit, ArgumentsFit, MayBeWritten}
 use Rattle.printed_texts.proofs.SpeltTexts.{spelt_written}
 use Rattle.placement_texts.specs.OneTag.{InText}
 use Rattle.placement_texts.specs.Own.{OwnNames, OwnBound, OwnPlain, OwnNest}
@@ -160,9 +160,13 @@ arguments_of : (args : List Arg) → ArgumentsFit args → OwnArguments of_text 
 arguments_of [] h = tt
 arguments_of (arg ∷ args) h = (one_name arg.name h.0.name, arguments_of args h.1)
 
+-- such a module may be written
+pub may_be_written : (source : List ℕ) (m : Module) → length source < 2 ^ 64 → Spells source m → plain_fault m ≡ None → MayBeWritten m
+may_be_written source m short spells v13 = spelt_written source m short spells (module_nests m v13)
+
 pub is_written : (source : List ℕ) (m : Module) → length source < 2 ^ 64 → Spells source m → plain_fault m ≡ None → IsWritten m
 is_written source m short spells v13 =
-    let w = spelt_written source m short spells (module_nests m v13) in
+    let w = may_be_written source m short spells v13 in
     record {
       names = subst (OwnNest of_text) (sym w.body) (names_behind 39 w.stmts w.line w.fit (subst (InText Stands) w.body (input_stands m v13)));
       arguments = arguments_of m.args w.args;

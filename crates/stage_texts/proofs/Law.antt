@@ -1,5 +1,5 @@
 -- What the stage of a module of a text has of a text.
-use Rattle.std.proofs.Common.{◌≡◌, ℕ, suc, ◌+◌, ◌^◌, ◌<◌, Bool, true, false, List, [], ◌∷◌, ◌++◌, length, length-append, refl, sym, ap, ◌∙◌, subst, arith}
+use Rattle.std.proofs.Common.{◌≡◌, ℕ, suc, ◌^◌, ◌<◌, Bool, true, false, List, [], ◌∷◌, ◌++◌, length, length-append, refl, sym, ap, ◌∙◌, subst, arith}
 use Rattle.std.specs.Prelude.{if◌then◌else◌}
 use Rattle.std.proofs.lemmas.List.{length-map, map-append}
 use Rattle.affine_ast.specs.declared.module.Arg.{Arg}
@@ -39,7 +39,7 @@ any_names : (ns : List Name) → OwnNames (λ n. true) ns
 any_names [] = tt
 any_names (n ∷ ns) = (refl, any_names ns)
 
-few_names : (m : Module) → IsValid m → length (value_names m) < 2 ^ 64
+pub few_names : (m : Module) → IsValid m → length (value_names m) < 2 ^ 64
 unfolding first_broken told_module
 few_names m valid =
     let passed = passed_of (told_module m) valid in
@@ -66,7 +66,7 @@ all_made : (k : ℕ) (xs : List Step) → AllNamed made_by k xs → AllMade xs
 all_made k [] h = tt
 all_made k (x ∷ xs) h = ((λ i. made_so (x.placement.name i) k (h.0.made i)), all_made (suc k) xs h.1)
 
-own_lined : (own : Name → Bool) (n : Nest) → OwnNest own n → OwnNest own (lined n)
+pub own_lined : (own : Name → Bool) (n : Nest) → OwnNest own n → OwnNest own (lined n)
 own_lined own Nothing h = tt
 own_lined own (Loop line v l u s body rest) h = (h.0, h.1, h.2, own_lined own body h.3, own_lined own rest h.4)
 own_lined own (Branch line set names first has other rest) h = (h.0, own_lined own first h.1, own_lined own other h.2, own_lined own rest h.3)

@@ -5,6 +5,5 @@ pub mod Law
 pub mod Shape
 pub mod Limits
 pub mod Keeps
-pub mod Written
 pub mod Apart
 pub mod Orders

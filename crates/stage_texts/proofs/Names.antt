@@ -1,5 +1,5 @@
 -- The names of the module that staging makes are names of the grammar.
-use Rattle.std.proofs.Common.{◌≡◌, inl, inr, ◌⊎◌, ℕ, zero, suc, ◌+◌, ◌^◌, ◌<◌, ◌≤◌, ℤ, Bool, true, false, List, [], ◌∷◌, ◌++◌, length, map, refl, sym, ap, ◌∙◌, subst, arith}
+use Rattle.std.proofs.Common.{◌≡◌, inl, inr, ◌⊎◌, ℕ, zero, suc, ◌^◌, ◌<◌, ◌≤◌, ℤ, Bool, true, false, List, [], ◌∷◌, ◌++◌, length, map, refl, sym, ap, ◌∙◌, subst, arith}
 use Rattle.std.specs.Prelude.{if◌then◌else◌}
 use Rattle.std.specs.Char.{is_ascii_digit}
 use Rattle.std.specs.Fmt.{decimal}
@@ -139,7 +139,7 @@ redirected_fine p (Start a aa b bb t ta n stride types) h = h
 redirected_fine p (Wait t at n ty) h = h
 redirected_fine p Return h = h
 
-template_fine : (p : Placement) → ((i : ℕ) → (p.name i).made ≡ true) → HoldsOf NamesOfPlain NamesOfLoop NamesOfBranch p
+template_fine : (p : Placement) → ((i : ℕ) → (p.name i).made ≡ true) → HoldsOf NamesOfPlain NamesOfPlain (λ q h. h) NamesOfLoop NamesOfBranch p
 template_fine p made = record {
   least = λ k d t ts. (inl (made _), tt);
   raised = λ k. (inl (made _), tt);
@@ -167,7 +167,7 @@ AllMade (x ∷ xs) = ((i : ℕ) → (x.placement.name i).made ≡ true) × AllMa
 
 staged_fine : (xs : List Step) (n : Nest) → AllMade xs → DefinesFine n → DefinesFine (staged_all xs n)
 staged_fine [] n m h = h
-staged_fine (x ∷ xs) n m h = staged_fine xs _ m.1 (each_staged NamesOfPlain NamesOfLoop NamesOfBranch x.placement (template_fine x.placement m.0) (found x.spot n) n h)
+staged_fine (x ∷ xs) n m h = staged_fine xs _ m.1 (each_staged NamesOfPlain NamesOfPlain (λ q h. h) NamesOfLoop NamesOfBranch x.placement (template_fine x.placement m.0) (found x.spot n) n h)
 
 -- with placements, all names that a text defines are fine
 pub placed_fine : (xs : List Step) (n : Nest) → AllMade xs → AllFine (defined n) → AllFine (defined (staged_all xs n))

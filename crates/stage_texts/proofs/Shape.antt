@@ -124,7 +124,7 @@ redirected_stays p Return h = absurd h
 one_step : IsPositive (pos 1)
 one_step = record { magnitude = 1; is = refl; small = omega arith }
 
-template_shape : (p : Placement) → HoldsOf IsNoReturn HasStep HasRow p
+template_shape : (p : Placement) → HoldsOf IsNoReturn IsNoReturn (λ q h. h) HasStep HasRow p
 template_shape p = record {
   least = λ k d t ts. tt;
   raised = λ k. tt;
@@ -157,7 +157,7 @@ staged_shape [] n line f = f
 staged_shape (x ∷ xs) n line f = staged_shape xs _ line (record {
   stmts = staged_at x.placement (found x.spot n) f.stmts;
   is = ap (staged_at x.placement (found x.spot n)) f.is ∙ staged_front (Does line Return Nothing) x.placement (end_stays x.placement line) (found x.spot n) f.stmts;
-  shaped = each_staged IsNoReturn HasStep HasRow x.placement (template_shape x.placement) (found x.spot n) f.stmts f.shaped;
+  shaped = each_staged IsNoReturn IsNoReturn (λ q h. h) HasStep HasRow x.placement (template_shape x.placement) (found x.spot n) f.stmts f.shaped;
 })
 
 -- ---- lines, subscripts and names

@@ -1,5 +1,4 @@
 pub mod Order
 pub mod Shape
 pub mod Law
-pub mod Numbered
 pub mod Distinct

@@ -1,13 +1,11 @@
 //! What the module that staging makes of a module of a text has of a text.
 //!
-//! Laws alone: the names of its values are names of the grammar, its body has a text's shape, and it keeps to the limits. So where its
-//! parameters are numbered as the grammar has it, it may be written, and its printed text spells it. Subscripts with their dimensions
-//! numbered by first appearance have the order that the grammar asks for.
+//! Laws alone: the names of its values are names of the grammar, its body has a text's shape, and it keeps to the limits. Subscripts with
+//! their dimensions numbered by first appearance have the order that the grammar asks for. `stage_numbers` goes on from here.
 #![tactic(auto)]
 
 ghost use Rattle.stage_texts.specs.Distinct.{DistinctAreApart, NamedAreDistinct, NormalIsDistinct};
 ghost use Rattle.stage_texts.specs.Law.{StageKeeps, StageNames, StageShape, WrittenKeeps, WrittenShape};
-ghost use Rattle.stage_texts.specs.Numbered.{StageIsSpelled, StageIsWritten};
 ghost use Rattle.stage_texts.specs.Order.{NormalAppears};
 
 /// The names of a stage's values are names of the grammar.
@@ -30,12 +28,6 @@ pub fn stage_shape()
 pub fn stage_keeps()
     ensures stages { StageKeeps }
     ensures written { WrittenKeeps }
-{}
-
-/// A stage whose parameters are numbered as the grammar has it may be written, and its printed text spells it.
-pub fn stage_is_written()
-    ensures written { StageIsWritten }
-    ensures spelled { StageIsSpelled }
 {}
 
 /// Names of which none stands twice stay so under new names, one for one, and have no text twice where they are a text's. So do the

@@ -1,4 +1,4 @@
--- A stage whose parameters are numbered as the grammar has it may be written.
+-- The parameters of a stage are numbered as the grammar has it, so it may be written.
 use Rattle.std.specs.Prelude.{◌≡◌, ℕ, ℤ, List, ◌++◌, All, None}
 use Rattle.affine_expr.specs.declared.map.Set.{Set}
 use Rattle.affine_ast.specs.declared.module.Module.{Module}
@@ -35,12 +35,15 @@ NumberedBranch set names = AreFew set.dims set.syms
 abbrev pub AreNumbered : Nest → Type 0
 AreNumbered = Each NumberedPlain NumberedLoop NumberedBranch
 
--- of a valid module that may be written and meets V13: its stage may be written where its parameters are numbered so
+-- of a valid module that may be written and meets V13: the parameters of its stage are numbered so
+abbrev pub StageIsNumbered : Type 0
+StageIsNumbered = (o : Options) (m q : Module) → IsValid m → plain_fault m ≡ None → IsWritten m → MayBeWritten m → IsStageOf o m q → AreNumbered (nest q.body)
+
+-- and it may be written
 abbrev pub StageIsWritten : Type 0
-StageIsWritten = (o : Options) (m q : Module) → IsValid m → plain_fault m ≡ None → IsWritten m → MayBeWritten m → IsStageOf o m q
-    → AreNumbered (nest q.body) → MayBeWritten q
+StageIsWritten = (o : Options) (m q : Module) → IsValid m → plain_fault m ≡ None → IsWritten m → MayBeWritten m → IsStageOf o m q → MayBeWritten q
 
 -- so its printed text spells it, but for lines
 abbrev pub StageIsSpelled : Type 0
 StageIsSpelled = (o : Options) (m q : Module) → IsValid m → plain_fault m ≡ None → IsWritten m → MayBeWritten m → IsStageOf o m q
-    → AreNumbered (nest q.body) → (comments : List (List ℕ)) → All AreOnOneLine comments → SpellsAgain q (comment_lines comments ++ spelling q)
+    → (comments : List (List ℕ)) → All AreOnOneLine comments → SpellsAgain q (comment_lines comments ++ spelling q)

@@ -1,5 +1,5 @@
--- A stage whose subscripts are in order may be written.
-use Rattle.std.proofs.Common.{◌≡◌, ℕ, List, [], ◌∷◌, ◌++◌, map, sym, ap, ◌∙◌, subst}
+-- A stage may be written.
+use Rattle.std.proofs.Common.{ℕ, List, [], ◌∷◌, ◌++◌, map, sym, ap, ◌∙◌, subst}
 use Rattle.std.specs.Prelude.{if◌then◌else◌}
 use Rattle.affine_ast.specs.declared.module.Arg.{Arg}
 use Rattle.affine_ast.specs.declared.module.Module.{Module}
@@ -15,10 +15,11 @@ use Rattle.stage_laws.proofs.Law.{stage_runs}
 use Rattle.writable_modules.specs.Formed.{FormedPlain, Formed, IsFormed}
 use Rattle.writable_modules.proofs.Walk.{names_front, valid_written, written_spelled}
 use Rattle.stage_texts.specs.Shape.{IsNoReturn, Shaped}
-use Rattle.stage_texts.specs.Numbered.{NumberedPlain, AreNumbered, StageIsWritten, StageIsSpelled}
+use Rattle.stage_numbers.specs.Numbered.{NumberedPlain, AreNumbered, StageIsWritten, StageIsSpelled}
 use Rattle.stage_texts.proofs.Law.{stage_names}
 use Rattle.stage_texts.proofs.Shape.{stage_shape, written_shape}
 use Rattle.stage_texts.proofs.Keeps.{stage_keeps}
+use Rattle.stage_numbers.proofs.Parameters.{stage_numbered}
 
 plain_formed : (p : Plain) → IsNoReturn p → NumberedPlain p → FormedPlain p
 plain_formed (Value r pick at) h k = k
@@ -72,9 +73,9 @@ stage_formed o m q names w is order =
     }
 
 pub stage_written : StageIsWritten
-stage_written o m q valid v13 text w is order =
-    valid_written q (stage_runs o m q valid v13 text is).valid (stage_keeps o m q valid v13 text w is) (stage_formed o m q (stage_names o m q valid v13 text w is) w is order)
+stage_written o m q valid v13 text w is =
+    valid_written q (stage_runs o m q valid v13 text is).valid (stage_keeps o m q valid v13 text w is) (stage_formed o m q (stage_names o m q valid v13 text w is) w is (stage_numbered o m q valid v13 text w is))
 
 pub stage_spelled : StageIsSpelled
-stage_spelled o m q valid v13 text w is order comments lines =
-    written_spelled q (stage_runs o m q valid v13 text is).valid (stage_keeps o m q valid v13 text w is) (stage_formed o m q (stage_names o m q valid v13 text w is) w is order) comments lines
+stage_spelled o m q valid v13 text w is comments lines =
+    written_spelled q (stage_runs o m q valid v13 text is).valid (stage_keeps o m q valid v13 text w is) (stage_formed o m q (stage_names o m q valid v13 text w is) w is (stage_numbered o m q valid v13 text w is)) comments lines

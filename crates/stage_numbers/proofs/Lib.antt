@@ -1,0 +1,6 @@
+mod Symbols
+mod Ready
+mod Given
+mod Placed
+pub mod Parameters
+pub mod Written

@@ -1,8 +1,0 @@
-use Rattle.stage_texts.proofs.Written.{stage_written, stage_spelled}
-use Rattle.stage_texts.proofs.stage_is_written.Goals as goal
-
-pub returns-clause-written : goal.returns-clause-written
-returns-clause-written c = stage_written
-
-pub returns-clause-spelled : goal.returns-clause-spelled
-returns-clause-spelled c = stage_spelled
