@@ -1,0 +1,2 @@
+mod Blocked
+mod Accessed
