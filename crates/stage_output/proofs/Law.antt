@@ -13,7 +13,7 @@ use Rattle.stage_laws.specs.Law.{IsStageOf}
 use Rattle.stage_laws.proofs.Law.{texts_stage}
 use Rattle.stage_laws.proofs.Written.{is_written, may_be_written}
 use Rattle.stage_numbers.proofs.Written.{stage_spelled}
-use Rattle.stage_output.specs.Law.{StagesRun, StageOutput, LinesHaveNoPart}
+use Rattle.stage_output.specs.Law.{StagesRun, StageOutput, LinesChangeNothing}
 use Rattle.stage_output.proofs.Lines.{valid_alike, prompt_alike}
 use Rattle.stage_output.proofs.Runs.{agrees_by, runs_direct, fits_under, fits_back}
 
@@ -25,8 +25,8 @@ fits_alike m n args memory f = record {
       (subst (λ args. FitsArgs args memory.memrefs memory.symbols) args (fits_under unlined_argument (λ a. refl) m.args memory.memrefs memory.symbols f.fits));
 }
 
-pub lines_no_part : LinesHaveNoPart
-lines_no_part capacity source staged other same runs =
+pub lines_change_nothing : LinesChangeNothing
+lines_change_nothing capacity source staged other same runs =
     let valid = valid_alike staged other same runs.valid in
     let fits = λ (memory : Image) (f : Fits source memory). fits_alike staged other same.args memory (runs.fits memory f) in
     record {
@@ -63,5 +63,5 @@ stage_output o text source staged short spells valid v13 is comments lines =
     record {
       staged = again.printed;
       spelled = again.spelled;
-      runs = lines_no_part o.capacity source staged again.printed again.same (stages_run o text source staged short spells valid v13 is);
+      runs = lines_change_nothing o.capacity source staged again.printed again.same (stages_run o text source staged short spells valid v13 is);
     }

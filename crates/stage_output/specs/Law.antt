@@ -1,11 +1,11 @@
 -- The headline of staging without doubling.
 --
 -- Let a text spell a valid module that meets V13, and let any options be given. The printed text of its stage, behind any lines of
--- comments, as those of the report are, spells a module again. That module is valid, and the same memories fit it. From each of them,
--- whatever fast memory holds before it is written, within the capacity of the options it has the verdict of the direct meaning of the
--- text's module and, at the end, its slow memory: where each transfer completes at its start, and in every order of the steps of any
--- number of engines. So a fault of the text's module, a place out of bounds or a division, is the fault of each of these runs, and there
--- is no other.
+-- comments, as those of the report are, spells a module again. That module is valid, and the same memories fit it. From each of them, for
+-- every filler of fresh fast memory, within the capacity of the options, it has the verdict of the direct meaning of the text's module
+-- and, at the end, its slow memory: where each transfer completes at its start, and in every order of the steps of any number of engines
+-- from 1 on. So where the text's module stops at a fault, as a place out of bounds or a division by 0, each of these runs stops at the
+-- same, and where it doesn't, none of them stops at any.
 use Rattle.std.specs.Prelude.{◌≡◌, ℕ, ◌+◌, ◌≤◌, ◌<◌, ◌^◌, ℤ, List, ◌++◌, length, Some, None, All}
 use Rattle.affine_ast.specs.declared.image.Image.{Image}
 use Rattle.affine_ast.specs.declared.module.Module.{Module}
@@ -76,5 +76,5 @@ abbrev pub StageOutput : Type 0
 StageOutput = (o : Options) (text : List ℕ) (source staged : Module) → length text < 2 ^ 64 → Spells text source → IsValid source → plain_fault source ≡ None
     → IsStageOf o source staged → (comments : List (List ℕ)) → All AreOnOneLine comments → SpellsRunning o.capacity source (comment_lines comments ++ spelling staged)
 
-abbrev pub LinesHaveNoPart : Type 0
-LinesHaveNoPart = (capacity : ℕ) (source staged other : Module) → AreSameButLines staged other → RunsAs capacity source staged → RunsAs capacity source other
+abbrev pub LinesChangeNothing : Type 0
+LinesChangeNothing = (capacity : ℕ) (source staged other : Module) → AreSameButLines staged other → RunsAs capacity source staged → RunsAs capacity source other

@@ -3,7 +3,7 @@
 //! Laws alone: they join those of the plan, of subscripts and names, of printed texts and of all orders.
 #![tactic(auto)]
 
-ghost use Rattle.stage_output.specs.Law.{LinesHaveNoPart, StagesRun, StageOutput};
+ghost use Rattle.stage_output.specs.Law.{LinesChangeNothing, StagesRun, StageOutput};
 
 /// The stage of a module of a text runs as the module, by transfers at once and in every order.
 pub fn stages_run()
@@ -16,6 +16,6 @@ pub fn stage_output()
 {}
 
 /// A module that is the same as such a module but for lines runs so too.
-pub fn lines_have_no_part()
-    ensures { LinesHaveNoPart }
+pub fn lines_change_nothing()
+    ensures { LinesChangeNothing }
 {}
