@@ -1,0 +1,13 @@
+pub mod Ranges
+pub mod Scopes
+pub mod Front
+pub mod Copies
+pub mod Redirects
+pub mod Block
+pub mod Staged
+pub mod Skips
+pub mod Carried
+pub mod Places
+pub mod Known
+pub mod Reached
+pub mod Law
