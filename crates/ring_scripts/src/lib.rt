@@ -1,0 +1,48 @@
+//! A loop with rings beside the loop in which the same placements stand singly, statement by statement: what each of the two runs does.
+//!
+//! The text with rings has each access of a ring at the place of its turn, each transfer with the tag of its turn, and three loops where
+//! the single text has one. What is said here has no run in it: it is of the lists of actions alone.
+#![tactic(auto)]
+
+ghost use Rattle.ring_scripts.specs.Readings.{AccessInRing, LoopsAreCut, RingPlaceIs, TagInRing};
+ghost use Rattle.ring_scripts.specs.Starts.{BoxIsLater, LeavesInRing, StartsAhead, WaitsInRing};
+
+/// An access with a place in the ring goes to that of the turn so much later.
+pub fn ring_place_is()
+    ensures { RingPlaceIs }
+{}
+
+/// An access of a doubled memref goes to its cell in the half of the turn's place in the ring.
+pub fn access_in_ring()
+    ensures { AccessInRing }
+{}
+
+/// The tag of a turn is the one of its place in the ring.
+pub fn tag_in_ring()
+    ensures { TagInRing }
+{}
+
+/// The three loops that a loop is split into have the turns of a ring's prologue, main loop and epilogue.
+pub fn loops_are_cut()
+    ensures { LoopsAreCut }
+{}
+
+/// A box that is moved with its turn begins now where it begins in that turn.
+pub fn box_is_later()
+    ensures { BoxIsLater }
+{}
+
+/// A start ahead starts the transfer of that turn, with its tag and its half.
+pub fn starts_ahead()
+    ensures { StartsAhead }
+{}
+
+/// A wait is for the tag of the turn's place in the ring.
+pub fn waits_in_ring()
+    ensures { WaitsInRing }
+{}
+
+/// A start out is of the half of the turn's place in the ring.
+pub fn leaves_in_ring()
+    ensures { LeavesInRing }
+{}
