@@ -11,3 +11,4 @@ pub mod Places
 pub mod Known
 pub mod Reached
 pub mod Law
+pub mod Untesting

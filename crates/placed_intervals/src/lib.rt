@@ -4,6 +4,7 @@
 #![tactic(auto)]
 
 ghost use Rattle.placed_intervals.specs.Law.{OneMoreKeepsIntervals, PlacedKeepIntervals};
+ghost use Rattle.placed_intervals.specs.Untested.{PlanNeedsNoTest};
 
 /// A valid module keeps to the rule with all placements of regions.
 pub fn placed_keep_intervals()
@@ -13,4 +14,9 @@ pub fn placed_keep_intervals()
 /// So it does with each of them.
 pub fn one_more_keeps_intervals()
     ensures { OneMoreKeepsIntervals }
+{}
+
+/// The plan's own test of the rule refuses nothing: without it the plan is the same.
+pub fn plan_needs_no_test()
+    ensures { PlanNeedsNoTest }
 {}
