@@ -44,6 +44,7 @@ use Rattle.plan_laws.specs.Sites.{lined}
 use Rattle.plan_numbers.specs.Modules.{A, it, i, loaded, c, at, slow}
 use Rattle.plan_numbers.specs.Law.{tile}
 use Rattle.plan_numbers.proofs.Folds.{bounds, spread_parts}
+use Rattle.numbered_names.specs.Numbers.{defined}
 use Rattle.ring_plans.specs.Rings.{double_at}
 use Rattle.ring_plans.specs.Plan.{Judged, InLoop, Ringed, clashes, or_else, when, ring_cause, splits, with_cause, with_rings, ringed_from, regions_in, begun, with_doublings, ringed, ring_plan}
 use Rattle.ring_numbers.specs.Placements.{tile_of}
@@ -153,7 +154,7 @@ abbrev sevens_ring : Nest
 sevens_ring = double_at 2 (tile_of 64 false ∷ []) Here sevens_staged
 
 sevens_ring_intervals : keeps_intervals sevens.args sevens_ring ≡ true
-unfolding split_of keeps_intervals same_name put floor_div limited first_turn last_end ranges_in has_interval access_bounded set_bounded is_small_dimension
+unfolding defined split_of keeps_intervals same_name put floor_div limited first_turn last_end ranges_in has_interval access_bounded set_bounded is_small_dimension
 sevens_ring_intervals = simp (bounds, spread_parts, number_const, behind_const) refl
 
 sevens_splits : splits 2 sevens_text ≡ true
@@ -161,7 +162,7 @@ unfolding same_name floor_div
 sevens_splits = simp number_const refl
 
 ring_within : keeps_limits sevens.args sevens_ring ≡ true
-unfolding split_of keeps_limits same_name put floor_div limited first_turn last_end ranges_in sizes_positive shape_within
+unfolding defined split_of keeps_limits same_name put floor_div limited first_turn last_end ranges_in sizes_positive shape_within
 ring_within = simp (counts, depth_laws, number_const, behind_const) refl
 
 no_clash : clashes o sevens.args sevens_text (placed 64) tile Here ≡ None
@@ -169,7 +170,7 @@ unfolding clash clash_system place along used padded minus system_of row_at empt
 no_clash = refl
 
 ring_bytes : peak_of sevens_ring 0 ≡ 128
-unfolding same_name split_of floor_div
+unfolding defined same_name split_of floor_div
 ring_bytes = refl
 
 no_cause : ring_cause o sevens.args sevens_text [] (placed 64) tile Here sevens_ring ≡ None
@@ -249,7 +250,7 @@ abbrev read_ring : Nest
 read_ring = double_at 2 (tile_of 65 false ∷ []) Here read_staged
 
 read_ring_intervals : keeps_intervals sevens_read.args read_ring ≡ true
-unfolding split_of keeps_intervals same_name put floor_div limited first_turn last_end ranges_in has_interval access_bounded set_bounded is_small_dimension
+unfolding defined split_of keeps_intervals same_name put floor_div limited first_turn last_end ranges_in has_interval access_bounded set_bounded is_small_dimension
 read_ring_intervals = simp (bounds, spread_parts, number_const, behind_const) refl
 
 read_splits : splits 2 read_text ≡ true

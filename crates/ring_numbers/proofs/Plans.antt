@@ -39,8 +39,10 @@ use Rattle.plan_numbers.specs.Modules.{A, slow, tiles}
 use Rattle.plan_numbers.specs.Law.{tile, staged_tile}
 use Rattle.plan_numbers.proofs.Folds.{bounds, spread_parts}
 use Rattle.plan_numbers.proofs.Plans.{round, round_is, placement, placed, text}
+use Rattle.numbered_names.specs.Numbers.{defined}
 use Rattle.ring_plans.specs.Rings.{double_at}
 use Rattle.ring_plans.specs.Plan.{Judged, Ringed, clashes, or_else, when, ring_cause, splits, with_cause, with_rings, ringed_from, regions_in, begun, with_doublings, ringed, ring_plan}
+use Rattle.ring_numbers.specs.Texts.{three_loops}
 use Rattle.ring_numbers.specs.Law.{with_double, wide_tile, two_tiles, RingPlansAre}
 use Rattle.ring_numbers.proofs.Rings.{number_const, rings}
 
@@ -107,13 +109,25 @@ planned_is capacity h =
 abbrev ring : Nest
 ring = double_at 2 (placement ∷ []) Here text
 
+abbrev loops : Nest
+loops = three_loops 2 (pos 16) (pos 1) (pos 48) (pos 48)
+
+ring_is : ring ≡ loops
+ring_is = sym (ap (λ n. double_at 2 (placement ∷ []) Here (stage_one placement (Inside Here) n)) round_is) ∙ rings.two
+
+loops_bounded : keeps_intervals tiles.args loops ≡ true
+unfolding keeps_intervals same_name put floor_div limited first_turn last_end ranges_in has_interval access_bounded set_bounded is_small_dimension
+loops_bounded = simp (bounds, spread_parts) refl
+
+loops_within : keeps_limits tiles.args loops ≡ true
+unfolding keeps_limits same_name put floor_div limited first_turn last_end ranges_in sizes_positive shape_within
+loops_within = simp (counts, depth_laws) refl
+
 ring_intervals : keeps_intervals tiles.args ring ≡ true
-unfolding split_of keeps_intervals same_name put floor_div limited first_turn last_end ranges_in has_interval access_bounded set_bounded is_small_dimension
-ring_intervals = simp (bounds, spread_parts) refl
+ring_intervals = ap (keeps_intervals tiles.args) ring_is ∙ loops_bounded
 
 ring_within : keeps_limits tiles.args ring ≡ true
-unfolding split_of keeps_limits same_name put floor_div limited first_turn last_end ranges_in sizes_positive shape_within
-ring_within = simp (counts, depth_laws) refl
+ring_within = ap (keeps_limits tiles.args) ring_is ∙ loops_within
 
 no_clash : (capacity : ℕ) → clashes (with_double 2 capacity) tiles.args round placed tile Here ≡ None
 unfolding clash clash_system place along used padded minus system_of row_at emptiness tidied pair_of step steps eliminated same_name put join_forms scale_form number_form variable_form narrowed combined gcd_of floor_div first_turn last_end
@@ -125,14 +139,14 @@ it_splits = simp number_const refl
 
 -- no cause holds, or the capacity
 no_cause : ring_cause (with_double 2 128) tiles.args round [] placed tile Here ring ≡ None
-unfolding same_name split_of floor_div
+unfolding defined same_name split_of floor_div
 no_cause = λ j.
     or_else (when (not (it_splits j && ring_intervals j)) cause.Shape)
     (or_else (no_clash 128 j)
     (or_else (when (nat_lt 128 (peak_of ring 0)) cause.Capacity) (when (not (ring_within j)) cause.Size)))
 
 one_cause : ring_cause (with_double 2 127) tiles.args round [] placed tile Here ring ≡ Some cause.Capacity
-unfolding same_name split_of floor_div
+unfolding defined same_name split_of floor_div
 one_cause = λ j.
     or_else (when (not (it_splits j && ring_intervals j)) cause.Shape)
     (or_else (no_clash 127 j)

@@ -9,6 +9,7 @@ use Rattle.affine_ast.specs.Names.{same_name}
 use Rattle.affine_ast.proofs.Nests.{nests}
 use Rattle.loop_forms.specs.Sums.{number_of, number_step, sum_by, sum_of}
 use Rattle.loop_forms.specs.Split.{behind, leaf_behind, split_of}
+use Rattle.numbered_names.specs.Numbers.{defined}
 use Rattle.ring_numbers.specs.Law.{from_later, RingsAre}
 
 pub number_const : (z : ℤ) → number_of (Const z) ≡ Some z
@@ -42,11 +43,13 @@ behind_add d s a b =
     ∙ fold-roll-Expr Expr (λ x. roll-Expr (leaf_behind d s x)) (Expr-F.Add a b) ∙ rolls-Add (behind d s a) (behind d s b)
 
 pub rings : RingsAre
-unfolding same_name split_of floor_div
+unfolding same_name split_of floor_div defined
 rings = record {
   two = simp nests refl;
   three = simp nests refl;
   eight = simp nests refl;
+  names = refl;
+  numbers = refl;
   outward = simp (nests, number_const, behind_const) refl;
   outward_four = simp (nests, number_const, behind_const) refl;
   late_value =

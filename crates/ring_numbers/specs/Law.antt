@@ -1,5 +1,5 @@
 -- What rings the plans of two modules have, and what their texts are.
-use Rattle.std.specs.Prelude.{◌≡◌, ℕ, ℤ, ◌^◌, pos, neg_ℤ, Bool, true, false, List, [], ◌∷◌, Some, None, codes}
+use Rattle.std.specs.Prelude.{◌≡◌, ℕ, ℤ, ◌^◌, pos, neg_ℤ, Bool, true, false, List, [], ◌∷◌, Some, None, codes, map}
 use Rattle.affine_expr.specs.declared.expr.Expr.{Expr, Dim, Const, Add}
 use Rattle.affine_expr.specs.declared.map.Rel.TheVariants as rel
 use Rattle.affine_expr.specs.declared.map.Set.{Set}
@@ -14,6 +14,7 @@ use Rattle.nest_domain.specs.declared.plan.Doubling.TheVariants as doubling
 use Rattle.nest_domain.specs.declared.plan.Options.{Options}
 use Rattle.nest_domain.specs.declared.plan.Outcome.TheVariants as outcome
 use Rattle.nest_domain.specs.Boxes.{Dimension}
+use Rattle.numbered_names.specs.Numbers.{defined, made_of, place_of}
 use Rattle.placement_texts.specs.Fold.{Step}
 use Rattle.placement_texts.specs.Template.{Placement}
 use Rattle.placement_texts.specs.Spots.{Here, Inside, stage_one}
@@ -23,7 +24,7 @@ use Rattle.plan_numbers.specs.Modules.{it, at, tiles}
 use Rattle.plan_numbers.specs.Law.{tile}
 use Rattle.ring_plans.specs.Rings.{double_at, late_rows}
 use Rattle.ring_plans.specs.Plan.{clashes, ring_plan, ring_text, splits}
-use Rattle.ring_numbers.specs.Texts.{three_loops, one_loop, sevens, sevens_read}
+use Rattle.ring_numbers.specs.Texts.{three_loops, names_of_three, one_loop, sevens, sevens_read}
 use Rattle.ring_numbers.specs.Placements.{tile_placement}
 
 -- a module's text with the tile's placement, and a ring for it
@@ -49,6 +50,10 @@ pub record RingsAre : Type 0 where
   pub two : ringed_tile 2 (tile_placement true) tiles ≡ three_loops 2 (pos 16) (pos 1) (pos 48) (pos 48)
   pub three : ringed_tile 3 (tile_placement true) tiles ≡ three_loops 3 (pos 32) (pos 17) (pos 32) (pos 32)
   pub eight : ringed_tile 8 (tile_placement true) tiles ≡ three_loops 8 (pos 112) (pos 64) (neg_ℤ (pos 48)) (pos 0)
+  -- each definition of a made name has one of its own, and the number of its place: the constant 0, the ring 1, the tags 2, the tile ahead
+  -- in the first loop 3 and in the second 4, the tile of the turn in the second loop 5 and in the third 6
+  pub names : made_of (defined (three_loops 2 (pos 16) (pos 1) (pos 48) (pos 48))) ≡ names_of_three
+  pub numbers : map (λ n. place_of n names_of_three) names_of_three ≡ 0 ∷ 1 ∷ 2 ∷ 3 ∷ 4 ∷ 5 ∷ 6 ∷ []
   -- outward it stays one, which waits for the place of the ring from the turn on that comes round to it
   pub outward : ringed_tile 2 (tile_placement false) sevens ≡ one_loop 2 (pos 32) (pos 32)
   pub outward_four : ringed_tile 4 (tile_placement false) sevens ≡ one_loop 4 (pos 64) (pos 0)

@@ -15,6 +15,7 @@ use Rattle.affine_ast.specs.declared.types.Scalar.TheVariants as scalar
 use Rattle.affine_ast.specs.Nest.{Nest, Nothing, Loop, Branch, Does, Value, Load, Store, Constant, Binary, Alloc, Dealloc, Start, Wait, Return}
 use Rattle.int_ops.specs.declared.operation.Op.TheVariants as op
 use Rattle.made_names.specs.Made.{made_name}
+use Rattle.ring_plans.specs.Rings.{twin}
 use Rattle.plan_numbers.specs.Modules.{A, it, i, loaded, raised, c, stmt, slow, memref_a, at}
 
 -- ---- the names of the one placement
@@ -27,12 +28,22 @@ tags = made_name 0 1
 abbrev pub count : Name
 count = made_name 0 2
 
--- where the tile of the turn begins, and that of a turn that is ahead
+-- where the tile of the turn begins, and that of a turn that is ahead; in the third loop and the first they have other names
 abbrev pub tile_begin : Name
 tile_begin = made_name 0 7
 
 abbrev pub begin_ahead : Name
 begin_ahead = made_name 0 9
+
+abbrev pub other_begin : Name
+other_begin = twin tile_begin
+
+abbrev pub other_ahead : Name
+other_ahead = twin begin_ahead
+
+-- the made names that three loops define, in the order of their definitions: each stands there once, so it is numbered by its place
+abbrev pub names_of_three : List Name
+names_of_three = count ∷ fast ∷ tags ∷ other_ahead ∷ begin_ahead ∷ tile_begin ∷ other_begin ∷ []
 
 -- ---- a ring of so many places
 module _ (buffers : ℕ) where
@@ -50,8 +61,8 @@ module _ (buffers : ℕ) where
   at_turn turn es = record { map = record { dims = 1; syms = 0; results = place turn ∷ es }; operands = it ∷ [] }
 
   -- A's element i in the ring, which is that of i less the tile's begin
-  abbrev pub at_element : Access
-  at_element = record { map = record { dims = 3; syms = 0; results = place (Dim 2) ∷ Sub (Dim 0) (Dim 1) ∷ [] }; operands = i ∷ tile_begin ∷ it ∷ [] }
+  abbrev pub at_element : Name → Access
+  at_element from = record { map = record { dims = 3; syms = 0; results = place (Dim 2) ∷ Sub (Dim 0) (Dim 1) ∷ [] }; operands = i ∷ from ∷ it ∷ [] }
 
   abbrev pub begins_at : Name → Expr → Nest → Nest
   begins_at n e rest = Does 0 (Value n Apply (at e it)) rest
@@ -60,9 +71,9 @@ module _ (buffers : ℕ) where
   start_in from turn rest = Does 0
       (Start A (at (Dim 0) from) fast (at_turn turn (Const (pos 0) ∷ [])) tags (at_turn turn []) count None (slow 64 ∷ ring ∷ ring_tags ∷ [])) rest
 
-  abbrev pub start_out : Nest → Nest
-  start_out rest = Does 0
-      (Start fast (at_turn (Dim 0) (Const (pos 0) ∷ [])) A (at (Dim 0) tile_begin) tags (at_turn (Dim 0) []) count None (ring ∷ slow 64 ∷ ring_tags ∷ [])) rest
+  abbrev pub start_out : Name → Nest → Nest
+  start_out from rest = Does 0
+      (Start fast (at_turn (Dim 0) (Const (pos 0) ∷ [])) A (at (Dim 0) from) tags (at_turn (Dim 0) []) count None (ring ∷ slow 64 ∷ ring_tags ∷ [])) rest
 
   abbrev pub wait : Nest → Nest
   wait rest = Does 0 (Wait tags (at_turn (Dim 0) []) count ring_tags) rest
@@ -80,26 +91,26 @@ module _ (buffers : ℕ) where
   tile_loop body rest = Loop 3 i (bound.Map (at (Dim 0) it)) (bound.Map (at (Add (Dim 0) (Const (pos 16))) it)) (pos 1) body rest
 
   -- ---- inward: each element of the tile is raised
-  abbrev pub raised_in_ring : Nest
-  raised_in_ring =
-      Does 4 (Load loaded fast at_element ring)
+  abbrev pub raised_in_ring : Name → Nest
+  raised_in_ring from =
+      Does 4 (Load loaded fast (at_element from) ring)
       (Does 5 (Constant c (pos 1) (scalar.Int I32))
       (Does 6 (Binary raised op.Add loaded c (scalar.Int I32))
-      (Does 7 (Store raised fast at_element ring) Nothing)))
+      (Does 7 (Store raised fast (at_element from) ring) Nothing)))
 
-  abbrev pub turn : Nest
-  turn = begins_at tile_begin (Dim 0) (wait (tile_loop raised_in_ring (start_out (wait Nothing))))
+  abbrev pub turn : Name → Nest
+  turn from = begins_at from (Dim 0) (wait (tile_loop (raised_in_ring from) (start_out from (wait Nothing))))
 
   -- transfers are so far ahead; where the first loop ends, the second one, and where the third begins
   abbrev pub three_loops : ℤ → ℤ → ℤ → ℤ → Nest
   three_loops ahead first_end main_end last_begin = opened
-      (over 0 (pos 0) first_end (begins_at begin_ahead (Dim 0) (start_in begin_ahead (Dim 0) Nothing))
-      (over 2 (pos 0) main_end (begins_at begin_ahead (Add (Dim 0) (Const ahead)) (start_in begin_ahead (Add (Dim 0) (Const ahead)) turn))
-      (over 0 last_begin (pos 64) turn closed)))
+      (over 0 (pos 0) first_end (begins_at other_ahead (Dim 0) (start_in other_ahead (Dim 0) Nothing))
+      (over 2 (pos 0) main_end (begins_at begin_ahead (Add (Dim 0) (Const ahead)) (start_in begin_ahead (Add (Dim 0) (Const ahead)) (turn tile_begin)))
+      (over 0 last_begin (pos 64) (turn other_begin) closed)))
 
   -- ---- outward: each element of the tile becomes 7
   abbrev pub sevens_in_ring : Nest
-  sevens_in_ring = Does 4 (Constant c (pos 7) (scalar.Int I32)) (Does 5 (Store c fast at_element ring) Nothing)
+  sevens_in_ring = Does 4 (Constant c (pos 7) (scalar.Int I32)) (Does 5 (Store c fast (at_element tile_begin) ring) Nothing)
 
   abbrev pub from_turn : ℤ → Set
   from_turn z = record { dims = 1; syms = 0; rows = record { left = Dim 0; rel = rel.Ge; right = Const z } ∷ [] }
@@ -108,7 +119,7 @@ module _ (buffers : ℕ) where
   abbrev pub one_loop : ℤ → ℤ → Nest
   one_loop round_again last_begin = opened
       (over 2 (pos 0) (pos 64)
-      (begins_at tile_begin (Dim 0) (Branch 0 (from_turn round_again) (it ∷ []) (wait Nothing) false Nothing (tile_loop sevens_in_ring (start_out Nothing))))
+      (begins_at tile_begin (Dim 0) (Branch 0 (from_turn round_again) (it ∷ []) (wait Nothing) false Nothing (tile_loop sevens_in_ring (start_out tile_begin Nothing))))
       (over 0 last_begin (pos 64) (wait Nothing) closed))
 
 -- 64 numbers, each made 7, in tiles of 16

@@ -3,6 +3,7 @@
 -- singly. What the template of a placement made there is known by the names that it defines or uses: its fast memref, its tags, its
 -- constants.
 use Rattle.std.specs.Prelude.{ℕ, suc, ◌+◌, ℤ, pos, ◌+ℤ◌, ◌*ℤ◌, Bool, false, ◌||◌, List, [], ◌∷◌, ◌++◌, take, drop, Option, None, if◌then◌else◌}
+use Rattle.std.specs.List.{list_any}
 use Rattle.affine_expr.specs.declared.expr.Expr.{Expr, Dim, Const, FloorDiv, Mod}
 use Rattle.affine_expr.specs.declared.map.Rel.TheVariants as rel
 use Rattle.affine_expr.specs.declared.map.Set.{Set}
@@ -14,7 +15,9 @@ use Rattle.affine_ast.specs.declared.types.MemrefType.{MemrefType}
 use Rattle.affine_ast.specs.Names.{same_name}
 use Rattle.affine_ast.specs.Nest.{Plain, Nest, Nothing, Loop, Branch, Does, Load, Store, Constant, Alloc, Dealloc, Start, Wait}
 use Rattle.loop_forms.specs.Sums.{sum_of}
+use Rattle.numbered_names.specs.Numbers.{defined, made_of}
 use Rattle.loop_forms.specs.Split.{as_map, behind, reach, sole, split_of}
+use Rattle.placement_texts.specs.Renamed.{named}
 use Rattle.placement_texts.specs.Spots.{Spot, Here, Behind, Inside, Other, found}
 use Rattle.placement_texts.specs.Template.{Dimension, How, Copies, Transfers, Placement, dim_extents, slow_type, fast_name, tag_name, count_name, stride_name, chunk_name, plus, begins_from, slow_at_places, fast_at_zeros, tag_at_zero, places_from, constants, stride_of}
 
@@ -34,6 +37,21 @@ changed_at f s n = n
 -- the names of that turn's places, which copy loops would take, and transfers don't
 abbrev pub later_names : (ℕ → Name) → ℕ → Name
 later_names name n = name (2 + n)
+
+-- ---- names of what is defined twice
+-- Prologue and epilogue define what the main loop defines: the places of the starts, and what the body defines. There each made
+-- name is the twin of the main loop's, so that no two definitions of a text have one made name.
+
+-- no template takes it: it is a byte longer than the names that templates take
+abbrev pub twin : Name → Name
+twin n = record { text = n.text ++ 50 ∷ []; made = n.made }
+
+abbrev pub twin_of_some : List Name → Name → Name
+twin_of_some names n = if list_any (same_name n) names then twin n else n
+
+-- a text with twins for the made names that it defines; those that it only uses stay
+abbrev pub twin_text : Nest → Nest
+twin_text n = named (twin_of_some (made_of (defined n))) n
 
 -- the coefficient of a value
 abbrev pub coefficient_of : Name → List (Name × ℤ) → ℤ
@@ -71,12 +89,12 @@ module _ (buffers : ℕ) (v : Name) (lower upper : Bound) (s : ℤ) where
   stride_names p Copies = None
   stride_names p (Transfers chunks) = stride_of p chunks
 
-  -- the start into the place of the turn that is z later, behind the values that say where the box is then
-  abbrev pub start_later : ℤ → Placement → Nest → Nest
-  start_later z p rest =
+  -- the start into the place of the turn that is z later, behind the values that say where the box is then, under these names
+  abbrev pub start_later : (ℕ → Name) → ℤ → Placement → Nest → Nest
+  start_later name z p rest =
       let ds = dims_later v z p.dims in
-      let bs = begins_from (later_names p.name) 0 ds in
-      places_from (later_names p.name) 0 ds
+      let bs = begins_from name 0 ds in
+      places_from name 0 ds
       (Does 0 (Start p.memref (slow_at_places bs) (fast_name p.name) (at_place z (fast_at_zeros bs)) (tag_name p.name) (at_place z tag_at_zero)
       (count_name p.name) (stride_names p p.how) (slow_type p ∷ ring_type p ∷ ring_tags ∷ [])) rest)
 
@@ -153,9 +171,10 @@ module _ (buffers : ℕ) (v : Name) (lower upper : Bound) (s : ℤ) where
   opened [] rest = rest
   opened (p ∷ ps) rest = constants p p.how (ring_allocs p (opened ps rest))
 
-  abbrev pub started : ℤ → List Placement → Nest → Nest
-  started z [] rest = rest
-  started z (p ∷ ps) rest = if p.reads then start_later z p (started z ps rest) else started z ps rest
+  -- under the names of places ahead, each changed by this function
+  abbrev pub started : (Name → Name) → ℤ → List Placement → Nest → Nest
+  started f z [] rest = rest
+  started f z (p ∷ ps) rest = if p.reads then start_later (λ n. f (later_names p.name n)) z p (started f z ps rest) else started f z ps rest
 
   abbrev pub waited : List Placement → Nest → Nest
   waited [] rest = rest
@@ -176,9 +195,9 @@ module _ (buffers : ℕ) (v : Name) (lower upper : Bound) (s : ℤ) where
   ring_loops ps line body rest =
       let parts = split_of lower upper s buffers in
       if some_read ps
-      then Loop 0 v parts.prologue.0 parts.prologue.1 s (started (pos 0) ps Nothing)
-      (Loop line v parts.main.0 parts.main.1 s (started (reach s buffers) ps body)
-      (Loop 0 v parts.epilogue.0 parts.epilogue.1 s body rest))
+      then Loop 0 v parts.prologue.0 parts.prologue.1 s (started twin (pos 0) ps Nothing)
+      (Loop line v parts.main.0 parts.main.1 s (started (λ n. n) (reach s buffers) ps body)
+      (Loop 0 v parts.epilogue.0 parts.epilogue.1 s (twin_text body) rest))
       else Loop line v lower upper s body rest
 
   abbrev pub doubled_loop : List Placement → ℕ → Nest → Nest → Nest
