@@ -2,3 +2,5 @@ pub mod Places
 pub mod Loops
 pub mod Later
 pub mod Starts
+pub mod Texts
+pub mod Calm

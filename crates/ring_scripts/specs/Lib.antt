@@ -1,2 +1,4 @@
 pub mod Readings
 pub mod Starts
+pub mod Texts
+pub mod Calm

@@ -4,8 +4,10 @@
 //! the single text has one. What is said here has no run in it: it is of the lists of actions alone.
 #![tactic(auto)]
 
+ghost use Rattle.ring_scripts.specs.Calm.{ElsewhereIsCalm, NoClashIsCalm};
 ghost use Rattle.ring_scripts.specs.Readings.{AccessInRing, LoopsAreCut, RingPlaceIs, TagInRing};
 ghost use Rattle.ring_scripts.specs.Starts.{BoxIsLater, LeavesInRing, StartsAhead, WaitsInRing};
+ghost use Rattle.ring_scripts.specs.Texts.{ClosesInRing, OpensInRing, WorkInRing};
 
 /// An access with a place in the ring goes to that of the turn so much later.
 pub fn ring_place_is()
@@ -45,4 +47,29 @@ pub fn waits_in_ring()
 /// A start out is of the half of the turn's place in the ring.
 pub fn leaves_in_ring()
     ensures { LeavesInRing }
+{}
+
+/// Of what isn't a placement's template only its loads and stores of the fast memref change.
+pub fn work_in_ring()
+    ensures { WorkInRing }
+{}
+
+/// Before the placement's loop only the places are left, and a wait: for this turn's transfer in, or for a late one out.
+pub fn opens_in_ring()
+    ensures { OpensInRing }
+{}
+
+/// Behind the placement's loop only the start out is left, and inward the wait for it.
+pub fn closes_in_ring()
+    ensures { ClosesInRing }
+{}
+
+/// Transfers of one box in turns at a distance at which it doesn't clash have no slow place in common.
+pub fn no_clash_is_calm()
+    ensures { NoClashIsCalm }
+{}
+
+/// What goes to another memref meets no transfer of the box.
+pub fn elsewhere_is_calm()
+    ensures { ElsewhereIsCalm }
 {}
