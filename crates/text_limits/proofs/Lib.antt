@@ -1,0 +1,14 @@
+pub mod Prefixes
+pub mod Summed
+pub mod Grown
+pub mod Fitting
+pub mod Adding
+pub mod Tallied
+pub mod Heads
+pub mod Lessened
+pub mod Turns
+pub mod Used
+pub mod Redirected
+pub mod Left
+pub mod Telling
+pub mod Lined
