@@ -24,7 +24,7 @@ use Rattle.place_intervals.specs.Places.{place_expr, terms_behind, chosen, range
 use Rattle.place_intervals.specs.TermRanges as terms
 use Rattle.place_intervals.proofs.PlaceRanged.{form_range_is}
 use Rattle.placement_texts.specs.Template.{Dimension, How, Copies, Transfers, form, join_terms, first_term, term, term_names, clamp, last_place}
-use Rattle.placement_regions.specs.Sites.{terms_over, dim_over, dims_over}
+use Rattle.placement_regions.specs.Sites.{terms_over, offset_over, dim_over, dims_over}
 use Rattle.placement_regions.proofs.Extents.{Fits, AllFit, AllSome}
 use Rattle.placed_intervals.specs.Fits.{Inside, clamped_by, PlaceFits, PlacesFit, CopiesFit, LessFit, Sized}
 use Rattle.placed_intervals.proofs.Ranges.{const_of}
@@ -194,6 +194,9 @@ module _ (s : Scope) where
   turn_clamp : (z most last : ℤ) → last ≡ most → int_max (pos 0) (int_min z most) ≡ int_max (int_min z last) (pos 0)
   turn_clamp z most last e = omega (arith, ints, clamps, e)
 
+  clamp_twice : (z most last : ℤ) → last ≡ most → int_max (int_min z last) (pos 0) ≡ int_max (int_min (int_max (int_min z most) (pos 0)) last) (pos 0)
+  clamp_twice z most last e = omega (arith, ints, clamps, e)
+
   clamp_same : (c : Bool) (D : Dimension) (most : ℤ) → last_place D ≡ most → (x r : Range) → clamped_range c most (Some x) ≡ Some r → r ≡ clamped_by c D x
   clamp_same true D most e x r h =
       let is : r ≡ record { least = int_max (pos 0) (int_min x.least most); greatest = int_max (pos 0) (int_min x.greatest most) } = cc in
@@ -201,8 +204,9 @@ module _ (s : Scope) where
   clamp_same false D most e x r h = let is : r ≡ x = cc in is
 
   module _ (ns : List Name) (d : region.Dimension) (size : ℕ) (long : length ns ≡ length d.coefs) (wide : pos (gap d.extent) ≡ d.extent) (fit : Fits d.extent (pos size)) (small : size ≤ 1048576) where
+    -- before a clamped number is moved
     abbrev D : Dimension
-    D = dim_over ns d size
+    D = record { size = size; terms = terms_over ns d.coefs; offset = d.offset; extent = gap d.extent; clamped = d.clamped }
 
     last_is : last_place D ≡ pos size -ℤ d.extent
     last_is = ap (λ z. pos size -ℤ z) wide
@@ -248,8 +252,8 @@ module _ (s : Scope) where
           clamp_same c D most last_is k.0 r k.2 ∙ (λ i. clamped_by (sym e i) D (sym x.2 i)),
         )
 
-    pub place_fits : (r : Range) → place_range (map rho ns) size d ≡ Some r → PlaceFits s D (terms_over ns d.coefs) r
-    place_fits r h = by d.clamped (all_zero d.coefs) refl refl h
+    stands : (r : Range) → place_range (map rho ns) size d ≡ Some r → PlaceFits s D (terms_over ns d.coefs) r
+    stands r h = by d.clamped (all_zero d.coefs) refl refl h
       where
         by : (c z : Bool) → d.clamped ≡ c → all_zero d.coefs ≡ z → cond (c && z) (Some (number_range most d.offset)) (clamped_range c most (range_of_spread Bound_)) ≡ Some r → PlaceFits s D (terms_over ns d.coefs) r
         by c true e f k = let none = zero_terms ns d.coefs long f in subst (λ ts. PlaceFits s D ts r) (sym none) (number_fits c r e none (first c k))
@@ -264,6 +268,18 @@ module _ (s : Scope) where
             second : (c : Bool) → cond (c && false) (Some (number_range most d.offset)) (clamped_range c most (range_of_spread Bound_)) ≡ Some r → clamped_range c most (range_of_spread Bound_) ≡ Some r
             second true k = k
             second false k = k
+
+    -- a number that is moved into the memref stays there
+    moved : (ts : List (Name × ℤ)) (r : Range) → PlaceFits s D ts r → PlaceFits s (record D { offset = offset_over ts d size }) ts r
+    moved [] r h = (h.0 ∙ ap only (same d.clamped), h.1)
+      where
+        same : (c : Bool) → cond c (clamp D d.offset) d.offset ≡ cond c (clamp D (cond c (int_max (int_min d.offset most) (pos 0)) d.offset)) (cond c (int_max (int_min d.offset most) (pos 0)) d.offset)
+        same true = clamp_twice d.offset most (last_place D) last_is
+        same false = refl
+    moved (t ∷ ts) r h = h
+
+    pub place_fits : (r : Range) → place_range (map rho ns) size d ≡ Some r → PlaceFits s (dim_over ns d size) (terms_over ns d.coefs) r
+    place_fits r h = moved (terms_over ns d.coefs) r (stands r h)
 
   ranges_some : (o : Option Range) (q : Option (List Range)) (rs : List Range) → with_range o q ≡ Some rs → (x : Range) × (xs : List Range) × (o ≡ Some x) × (q ≡ Some xs) × (rs ≡ x ∷ xs)
   ranges_some None q rs h = absurd (let z : ⊥ = cc in z)

@@ -19,7 +19,7 @@ use Rattle.placement_texts.specs.Boxes.{sizes_of, InBox, HasElements}
 use Rattle.placement_texts.specs.Template.{Dimension, clamp, dim_sizes}
 use Rattle.placement_texts.specs.Regions.{form_number, place_number, spans_at, PlacesLie}
 use Rattle.placement_texts.proofs.Cells.{within_is, row_parts}
-use Rattle.placement_regions.specs.Sites.{terms_over, dim_over, dims_over, ExtentsFit}
+use Rattle.placement_regions.specs.Sites.{terms_over, offset_over, dim_over, dims_over, ExtentsFit}
 use Rattle.placement_regions.proofs.Known.{AreHeld}
 
 module _ (s : Scope) (e : Env) where
@@ -66,15 +66,23 @@ module _ (s : Scope) (e : Env) where
       turned : (y : ℤ) → int_max y (pos 0) ≡ int_max (pos 0) y
       turned y = omega (arith, ints, clamps)
 
+  -- where it is clamped already
+  clamped_twice : (x s t : ℤ) → s ≡ t → int_max (int_min (int_max (int_min x t) (pos 0)) s) (pos 0) ≡ int_max (pos 0) (int_min x t)
+  clamped_twice x s t e = omega (arith, ints, clamps, e)
+
   pub place_is : (ns : List Name) (os : List ℤ) → Here ns os → (d : region.Dimension) (size : ℕ) → pos (gap d.extent) ≡ d.extent → place_number e (dim_over ns d size) ≡ begins_at d size os
   unfolding place_at
-  place_is ns os h d size long = by d.clamped (form_is ns d.coefs os d.offset h)
+  place_is ns os h d size long = by d.clamped (terms_over ns d.coefs) (λ z. form_is ns d.coefs os z h)
     where
-      by : (t : Bool) → form_number e (terms_over ns d.coefs) d.offset ≡ dot d.coefs os +ℤ d.offset
-          → (if t then clamp (dim_over ns d size) (form_number e (terms_over ns d.coefs) d.offset) else form_number e (terms_over ns d.coefs) d.offset)
+      by : (t : Bool) (ts : List (Name × ℤ)) → ((z : ℤ) → form_number e ts z ≡ dot d.coefs os +ℤ z)
+          → place_number e (record { size = size; terms = ts; offset = offset_over ts (record d { clamped = t }) size; extent = gap d.extent; clamped = t })
           ≡ (if t then int_max (pos 0) (int_min (dot d.coefs os +ℤ d.offset) (pos size -ℤ d.extent)) else dot d.coefs os +ℤ d.offset)
-      by true is = ap (λ x. int_max (int_min x (pos size -ℤ pos (gap d.extent))) (pos 0)) is ∙ clamped_is (dot d.coefs os +ℤ d.offset) (pos size) d.extent (gap d.extent) long
-      by false is = is
+      by true [] is =
+          clamped_twice d.offset (pos size -ℤ pos (gap d.extent)) (pos size -ℤ d.extent) (ap (λ y. pos size -ℤ y) long)
+          ∙ ap (λ x. int_max (pos 0) (int_min x (pos size -ℤ d.extent))) (is d.offset)
+      by true (t ∷ ts) is = ap (λ x. int_max (int_min x (pos size -ℤ pos (gap d.extent))) (pos 0)) (is d.offset) ∙ clamped_is (dot d.coefs os +ℤ d.offset) (pos size) d.extent (gap d.extent) long
+      by false [] is = is d.offset
+      by false (t ∷ ts) is = is d.offset
 
   pub gap_is : (z : ℤ) → pos 0 ≤ℤ z → pos (gap z) ≡ z
   gap_is (pos n) h = refl

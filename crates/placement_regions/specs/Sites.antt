@@ -1,5 +1,6 @@
 -- The loop at a place of a text, the way to it, and the dimensions that a placement takes from a region there.
-use Rattle.std.specs.Prelude.{◌≡◌, ℕ, zero, suc, ◌≤◌, ℤ, pos, Bool, true, false, if◌then◌else◌, List, [], ◌∷◌, ◌++◌, Result, Ok}
+use Rattle.std.specs.Prelude.{◌≡◌, ℕ, zero, suc, ◌≤◌, ℤ, pos, ◌-ℤ◌, Bool, true, false, if◌then◌else◌, List, [], ◌∷◌, ◌++◌, Result, Ok}
+use Rattle.std.specs.Int.{int_min, int_max}
 use Rattle.std.specs.Ordering.{int_eq}
 use Rattle.affine_ast.specs.declared.module.Arg.{Arg}
 use Rattle.affine_ast.specs.declared.module.ArgKind.TheVariants as kind
@@ -66,12 +67,17 @@ terms_over [] cs = []
 terms_over (n ∷ ns) [] = []
 terms_over (n ∷ ns) (a ∷ cs) = if int_eq a (pos 0) then terms_over ns cs else (n, a) ∷ terms_over ns cs
 
+-- the offset from these terms: a place that is a number and is clamped is the clamped number, whatever the region's own offset is
+abbrev pub offset_over : List (Name × ℤ) → region.Dimension → ℕ → ℤ
+offset_over [] d size = if d.clamped then int_max (int_min d.offset (pos size -ℤ d.extent)) (pos 0) else d.offset
+offset_over (t ∷ ts) d size = d.offset
+
 -- the dimension of a placement from that of a region
 abbrev pub dim_over : List Name → region.Dimension → ℕ → Dimension
 dim_over ns d size = record {
   size = size;
   terms = terms_over ns d.coefs;
-  offset = d.offset;
+  offset = offset_over (terms_over ns d.coefs) d size;
   extent = gap d.extent;
   clamped = d.clamped;
 }

@@ -1,7 +1,8 @@
 // Dimensions of a placement from those of a region.
-ghost use Rattle.std.specs.Prelude.{◌≡◌, length, IfOk, All};
+ghost use Rattle.std.specs.Prelude.{◌≡◌, pos, ◌-ℤ◌, if◌then◌else◌, length, IfOk, All};
+ghost use Rattle.std.specs.Int.{int_min, int_max};
 ghost use Rattle.valid_laws.specs.Safe.{IsSmall};
-ghost use Rattle.placement_regions.specs.Sites.{terms_over, dim_over, dims_over};
+ghost use Rattle.placement_regions.specs.Sites.{terms_over, offset_over, dim_over, dims_over};
 ghost use Rattle.planned_placements.specs.Writable.{IsWritable, AreWritable};
 
 use affine_ast::Name;
@@ -48,6 +49,31 @@ fn terms_over(
     Ok(terms)
 }
 
+/// The offset of a place that is a number: where it is clamped, as near to the region's as the box lies in the memref.
+fn fixed_offset(dim: &RegionDim, size: u32) -> i128
+    ensures { result ≡ (if dim.now.clamped then int_max (int_min dim.now.offset (pos size -ℤ dim.now.extent)) (pos 0) else dim.now.offset) }
+{
+    if dim.clamped {
+        let last = size as i128 - dim.extent as i128;
+        dim.offset.min(last).max(0)
+    } else {
+        dim.offset
+    }
+}
+
+/// The offset from these terms.
+#[tactic(auto, using(crate::proofs::Offsets::offset_none, crate::proofs::Offsets::offset_some))]
+fn offset_over(terms: &[(Name, i64)], dim: &RegionDim, size: u32) -> i64
+    requires { IsSmall (offset_over terms.now dim.now size) }
+    ensures { result ≡ offset_over terms.now dim.now size }
+{
+    if terms.is_empty() {
+        narrowed(fixed_offset(dim, size))
+    } else {
+        narrowed(dim.offset)
+    }
+}
+
 /// A dimension of a placement, where the memref has this size.
 fn dim_over(
     alloc: Global,
@@ -58,10 +84,12 @@ fn dim_over(
     requires { IsWritable (length names.now) dim.now }
     ensures { IfOk result (λ made. made ≡ dim_over names.now dim.now size) }
 {
+    let terms = terms_over(alloc, names, &dim.coefs)?;
+    let offset = offset_over(terms.as_slice(), dim, size);
     Ok(Dimension {
         size,
-        terms: terms_over(alloc, names, &dim.coefs)?,
-        offset: narrowed(dim.offset),
+        terms,
+        offset,
         extent: dim.extent,
         clamped: dim.clamped,
     })
