@@ -1,2 +1,3 @@
 pub mod Bytes
 pub mod Law
+pub mod Living

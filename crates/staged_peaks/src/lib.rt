@@ -3,6 +3,10 @@
 
 ghost use Rattle.staged_peaks.specs.Law.{PeaksAreOfPlacements, MostIsOfLoops, MoreAtALoop, OnePlacementMore};
 
+mod live;
+
+pub use live::Live;
+
 /// The peak of a module that meets V13, with placements staged, is the most bytes, over all its loops, of the placements at a loop and at
 /// those round it.
 pub fn peaks_are_of_placements()
