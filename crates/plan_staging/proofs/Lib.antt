@@ -1,0 +1,5 @@
+pub mod Said
+pub mod Smalls
+pub mod Few
+pub mod Placing
+pub mod Staging
