@@ -15,6 +15,7 @@ use Rattle.affine_ast.specs.Nest.{Plain, Nest, Value, Load, Store, RawLoad, RawS
 use Rattle.affine_ast.specs.Parts.{start_uses, uses_of, result_of}
 use Rattle.affine_ast.specs.Scope.{Binding, Variable, Symbol, IndexConstant, Data, MemrefArgument, Allocation, Scope}
 use Rattle.affine_ast.specs.Rules.{stride_names, is_in, are_in, place_in, bound_in, uses_in_scope, is_new, is_new_result, defines_new, may_be_dimension, may_be_symbol, is_memref, is_dimension, is_symbol, is_value, are_values, operands_stand, bound_stands, uses_stand, same_element, binding_is_memref_of, binding_is_scalar, is_memref_of, is_of, casts_between, are_indexes, ends_typed, types_agree, is_released_once, is_loadable, allocates_well, ends_in_spaces, is_allocation, is_allocated, number_of_binding, is_count, are_stride_and_chunk, constant_of, stride_well, is_live, spaces_agree}
+use Rattle.ring_validity.specs.Bodies.{bound_uses}
 use Rattle.ring_validity.specs.Wells.{kind_of, around, PlainWell, LoopWell, ConditionWell}
 
 -- what is the same of all intervals hangs on the kind
@@ -26,12 +27,6 @@ of_kind f h (Some (IndexConstant z)) = refl
 of_kind f h (Some (Data ty)) = refl
 of_kind f h (Some (MemrefArgument ty)) = refl
 of_kind f h (Some (Allocation ty)) = refl
-
--- the names that a bound uses
-abbrev pub bound_uses : Bound → List Name
-bound_uses (bound.Int z) = []
-bound_uses (bound.Value n) = n ∷ []
-bound_uses (bound.Map at) = at.operands
 
 module _ (s t : Scope) (d e : Name → Bool) where
   -- a name stands for the same kind, and is as much released
@@ -88,7 +83,7 @@ module _ (s t : Scope) (d e : Name → Bool) where
       let c = both_same z_at.operands (n ∷ stride_names stride) b.1.1 in
       record { from = h.0; from_at = a.0; to = a.1.0; to_at = b.0; tag = b.1.0; tag_at = c.0; count = c.1.0; chunks = c.1.1 }
 
-  place_same : (m : Name) (at : Access) → Same m → AllSame at.operands → place_in t m at ≡ place_in s m at
+  pub place_same : (m : Name) (at : Access) → Same m → AllSame at.operands → place_in t m at ≡ place_in s m at
   place_same m at o h = λ i. in_same m o i && are_same at.operands h i
 
   uses_same : (q : Plain) → AllSame (uses_of q) → uses_in_scope t q ≡ uses_in_scope s q
@@ -111,19 +106,19 @@ module _ (s t : Scope) (d e : Name → Bool) where
   uses_same Return h = refl
 
   -- ---- where dimensions, symbols and values stand
-  dimension_same : (n : Name) → Same n → is_dimension t n ≡ is_dimension s n
+  pub dimension_same : (n : Name) → Same n → is_dimension t n ≡ is_dimension s n
   unfolding is_dimension
   dimension_same n o = by_kind may_be_dimension (λ r q. refl) n o
 
-  symbol_same : (n : Name) → Same n → is_symbol t n ≡ is_symbol s n
+  pub symbol_same : (n : Name) → Same n → is_symbol t n ≡ is_symbol s n
   unfolding is_symbol
   symbol_same n o = by_kind may_be_symbol (λ r q. refl) n o
 
-  value_same : (n : Name) → Same n → is_value t n ≡ is_value s n
+  pub value_same : (n : Name) → Same n → is_value t n ≡ is_value s n
   unfolding is_value
   value_same n o = ap not (by_kind is_memref (λ r q. refl) n o)
 
-  values_same : (ns : List Name) → AllSame ns → are_values t ns ≡ are_values s ns
+  pub values_same : (ns : List Name) → AllSame ns → are_values t ns ≡ are_values s ns
   unfolding are_values
   values_same ns o = all_by is_value value_same ns o
 
@@ -166,11 +161,11 @@ module _ (s t : Scope) (d e : Name → Bool) where
   stand_same Return h = refl
 
   -- ---- types
-  memref_same : (m : Name) (ty : MemrefType) → Same m → is_memref_of t m ty ≡ is_memref_of s m ty
+  pub memref_same : (m : Name) (ty : MemrefType) → Same m → is_memref_of t m ty ≡ is_memref_of s m ty
   unfolding is_memref_of
   memref_same m ty o = by_kind (λ b. binding_is_memref_of b ty) (λ r q. refl) m o
 
-  scalar_same : (n : Name) (ty : Scalar) → Same n → is_of t n ty ≡ is_of s n ty
+  pub scalar_same : (n : Name) (ty : Scalar) → Same n → is_of t n ty ≡ is_of s n ty
   unfolding is_of
   scalar_same n ty o = by_kind (λ b. binding_is_scalar b ty) (λ r q. refl) n o
 
@@ -203,11 +198,11 @@ module _ (s t : Scope) (d e : Name → Bool) where
   types_same Return h = refl
 
   -- ---- spaces, and what is released
-  number_same : (n : Name) → Same n → constant_of t n ≡ constant_of s n
+  pub number_same : (n : Name) → Same n → constant_of t n ≡ constant_of s n
   unfolding constant_of
   number_same n o = by_kind number_of_binding (λ r q. refl) n o
 
-  stride_same : (two : Option (Name × Name)) → AllSame (stride_names two) → stride_well t two ≡ stride_well s two
+  pub stride_same : (two : Option (Name × Name)) → AllSame (stride_names two) → stride_well t two ≡ stride_well s two
   stride_same None h = refl
   stride_same (Some two) h = λ i. are_stride_and_chunk (number_same two.0 h.0 i) (number_same two.1 h.1.0 i)
 
@@ -215,7 +210,7 @@ module _ (s t : Scope) (d e : Name → Bool) where
   unfolding is_allocated
   allocated_same m o = by_kind is_allocation (λ r q. refl) m o
 
-  live_same : (m : Name) → Same m → is_live (around t e) m ≡ is_live (around s d) m
+  pub live_same : (m : Name) → Same m → is_live (around t e) m ≡ is_live (around s d) m
   live_same m o = ap not o.1
 
   -- an allocation is released once behind the one statement as behind the other

@@ -18,9 +18,10 @@ use Rattle.valid_laws.proofs.Passing.{judged_passed, then_passed, Holds, plain_h
 use Rattle.placement_texts.specs.Tests.{OnlyTested, BreaksOnlyTested}
 use Rattle.placement_texts.proofs.Scoped.{rules_of_plain}
 use Rattle.placement_texts.proofs.ScopedTexts.{rules_of_loop, judged_only, then_only}
+use Rattle.ring_validity.specs.Bodies.{bound_uses}
 use Rattle.ring_validity.specs.Wells.{kind_of, kinds, a_number, known_behind, released_behind, around, PlainWell, LoopWell, ConditionWell, WellFormed}
 use Rattle.ring_validity.specs.Law.{PassedIsWell}
-use Rattle.ring_validity.proofs.Same.{bound_uses, Same, AllSame, new_same, Again, plain_well, loop_well, condition_well}
+use Rattle.ring_validity.proofs.Same.{Same, AllSame, new_same, Again, plain_well, loop_well, condition_well}
 
 -- ---- kinds
 twice : (b : Option Binding) → kind_of (kind_of b) ≡ kind_of b

@@ -1,2 +1,4 @@
 pub mod Wells
+pub mod Bodies
 pub mod Law
+pub mod BodyLaw

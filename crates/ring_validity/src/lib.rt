@@ -4,6 +4,7 @@
 //! bounds of its loop.
 #![tactic(auto)]
 
+ghost use Rattle.ring_validity.specs.BodyLaw.{BodyStaysWell};
 ghost use Rattle.ring_validity.specs.Law.{PassedIsWell, WellIsValid};
 
 /// A text that breaks no rule of validity is well-formed.
@@ -14,4 +15,10 @@ pub fn passed_is_well()
 /// A module with a well-formed text that keeps to the rule on intervals and to the limits is valid.
 pub fn well_is_valid()
     ensures { WellIsValid }
+{}
+
+/// The body of a loop, rewritten for the ring of one placement that stands in it, is well-formed where the body was and the ring, its tags
+/// and its constants stand round the loop.
+pub fn body_stays_well()
+    ensures { BodyStaysWell }
 {}
