@@ -1,23 +1,23 @@
 -- A loop with the template round it keeps to the rule on intervals.
-use Rattle.std.proofs.Common.{◌≡◌, ℕ, zero, suc, ◌+◌, ◌*◌, ◌≤◌, ℤ, pos, Bool, true, false, List, [], ◌∷◌, refl, ap, ◌∙◌, arith}
+use Rattle.std.proofs.Common.{◌≡◌, ℕ, ◌+◌, ◌*◌, ℤ, Bool, true, false, List, [], ◌∷◌, refl, ◌∙◌, arith}
 use Rattle.std.specs.Prelude.{◌&&◌, Option, Some, None}
 use Rattle.std.proofs.lemmas.Bool.{and_parts}
 use Rattle.affine_expr.specs.Spread.{Range}
 use Rattle.affine_ast.specs.declared.name.Name.{Name}
 use Rattle.affine_ast.specs.declared.types.Bound.{Bound}
-use Rattle.affine_ast.specs.Nest.{Plain, Nest, Nothing, Loop, Branch, Does, Load, Store, Start, Wait, followed_by}
-use Rattle.affine_ast.specs.Rules.{access_bounded, bound_bounded}
+use Rattle.affine_ast.specs.Nest.{Nest, Nothing, Loop, Branch, Does, Load, Store, followed_by}
+use Rattle.affine_ast.specs.Rules.{bound_bounded}
 use Rattle.affine_ast.specs.Scope.{Scope}
 use Rattle.placement_texts.specs.Mapped.{mapped}
 use Rattle.placement_texts.specs.Own.{OwnNest, MadeNames}
 use Rattle.placement_texts.specs.Regions.{OwnDims}
-use Rattle.placement_texts.specs.Template.{Dimension, How, Copies, Transfers, Placement, fast_name, in_value, out_value, in_turn, out_turn, begins, begins_from, slow_at_turns, fast_at_turns, slow_type, fast_type, loops, copy_in, copy_out, wait, start_in, start_out, chunk_constants, constants, allocs, deallocs, read_in, write_out, where_so, before, behind_loop, redirect, staged_loop}
+use Rattle.placement_texts.specs.Template.{Dimension, How, Copies, Transfers, Placement, fast_name, in_value, out_value, in_turn, out_turn, begins, slow_at_turns, fast_at_turns, slow_type, fast_type, loops, copy_in, copy_out, wait, start_in, start_out, chunk_constants, constants, allocs, deallocs, read_in, write_out, where_so, behind_loop, redirect, staged_loop}
 use Rattle.placement_texts.specs.Tests.{behind_scope, loop_scope}
 use Rattle.plan_laws.specs.Limits.{bounded_in}
-use Rattle.placed_intervals.specs.Fits.{PlacesFit, CopiesFit, Sized, LoopFits}
+use Rattle.placed_intervals.specs.Fits.{CopiesFit, Sized, LoopFits}
 use Rattle.placed_intervals.proofs.Scopes.{Agree, bound_same, text_same, loop_agrees}
-use Rattle.placed_intervals.proofs.Front.{Changes, changes_then, changes_put, changes_more, changes_own, Begun, Later, places_along, begun_along, places_bounded}
-use Rattle.placed_intervals.proofs.Copies.{Turned, From, turned_along, loops_bounded, fast_bounded, slow_bounded, places_access, zeros_access}
+use Rattle.placed_intervals.proofs.Front.{Changes, changes_then, changes_put, changes_own, Begun, Later, places_along, begun_along, places_bounded}
+use Rattle.placed_intervals.proofs.Copies.{From, turned_along, loops_bounded, fast_bounded, slow_bounded, places_access, zeros_access}
 use Rattle.placed_intervals.proofs.Redirects.{body_bounded, begins_made, made_put}
 
 -- what is in scope behind statements
@@ -43,6 +43,10 @@ followed_bounded (Does line q more) rest s h k = let w = and_parts _ (bounded_in
 -- numbers of names that say no place
 abbrev pub NoPlace : ℕ → Type 0
 NoPlace i = (d : ℕ) → i ≡ 7 + 4 * d → ⊥
+
+pub loops_beside : (name : ℕ → Name) (turn : ℕ → Name) (d : ℕ) (ds : List Dimension) (inner : Nest) (s : Scope) → Changes name NoPlace s (scope_after inner s) → Changes name NoPlace s (scope_after (loops turn d ds inner) s)
+loops_beside name turn d [] inner s h = h
+loops_beside name turn d (x ∷ ds) inner s h = λ n a. refl
 
 module _ (own : Name → Bool) (p : Placement) (names : MadeNames own p.name) (rs : List Range) (sized : Sized p.dims) where
   abbrev Aside : Scope → Scope → Type 0
@@ -90,17 +94,13 @@ module _ (own : Name → Bool) (p : Placement) (names : MadeNames own p.name) (r
     bounded_ : bounded_in part s ≡ true
     aside : Aside s (scope_after part s)
 
-  loops_aside : (turn : ℕ → Name) (d : ℕ) (ds : List Dimension) (inner : Nest) (s : Scope) → Aside s (scope_after inner s) → Aside s (scope_after (loops turn d ds inner) s)
-  loops_aside turn d [] inner s h = h
-  loops_aside turn d (x ∷ ds) inner s h = λ n a. refl
-
   copied_in : (s : Scope) → CopiesFit Copies p.dims rs → Begun s (begins p) rs → Part (copy_in p) s
   copied_in s fit begun = record {
     bounded_ = loops_bounded own p.name names (λ d. 9 + 4 * d) in_apart 0 p.dims s inner sized (λ t c turned. let five = changes_put p.name (λ i. i ≡ 5) t 5 _ refl in
         λ i. slow_bounded own p.name names (λ d. 9 + 4 * d) in_apart t p.dims rs sized fit turned (begun_along own p.name names (From own p.name names (λ d. 9 + 4 * d) in_apart 0) (λ d w. let e = w.2 in omega (arith, e)) 0 p.dims rs s t c begun) i
         && (fast_bounded own p.name names (λ d. 9 + 4 * d) in_apart (behind_scope (Load (in_value p.name) p.memref (slow_at_turns (in_turn p.name) (begins p)) (slow_type p)) t) p.dims sized
         (turned_along own p.name names (λ d. 9 + 4 * d) in_apart (λ i. i ≡ 5) (λ e h. omega (arith, h)) t _ five 0 p.dims turned) i && true));
-    aside = loops_aside (in_turn p.name) 0 p.dims inner s (changes_put p.name NoPlace s 5 _ (λ d e. omega (arith, e)));
+    aside = loops_beside p.name (in_turn p.name) 0 p.dims inner s (changes_put p.name NoPlace s 5 _ (λ d e. omega (arith, e)));
   }
     where
       inner : Nest
@@ -115,7 +115,7 @@ module _ (own : Name → Bool) (p : Placement) (names : MadeNames own p.name) (r
         λ i. fast_bounded own p.name names (λ d. 10 + 4 * d) out_apart t p.dims sized turned i
         && (slow_bounded own p.name names (λ d. 10 + 4 * d) out_apart t' p.dims rs sized fit (turned_along own p.name names (λ d. 10 + 4 * d) out_apart (λ i. i ≡ 6) (λ e h. omega (arith, h)) t t' six 0 p.dims turned)
         (begun_along own p.name names (λ i. i ≡ 6) (λ d h. omega (arith, h)) 0 p.dims rs t t' six here) i && true));
-    aside = loops_aside (out_turn p.name) 0 p.dims inner s (changes_put p.name NoPlace s 6 _ (λ d e. omega (arith, e)));
+    aside = loops_beside p.name (out_turn p.name) 0 p.dims inner s (changes_put p.name NoPlace s 6 _ (λ d e. omega (arith, e)));
   }
     where
       inner : Nest

@@ -1,5 +1,5 @@
 -- What a placement asks of the intervals at its loop stays where another placement is staged: one of another memref, or at a loop apart.
-use Rattle.std.proofs.Common.{◌≡◌, ◌⊎◌, inl, inr, ℕ, zero, suc, ℤ, List, refl, sym, ap, ◌∙◌, subst, Bool, true, false, cond}
+use Rattle.std.proofs.Common.{◌≡◌, ◌⊎◌, inl, inr, ℕ, zero, suc, ℤ, List, sym, ap, ◌∙◌, subst, Bool, true, false, cond}
 use Rattle.affine_expr.specs.Spread.{Range}
 use Rattle.affine_ast.specs.declared.name.Name.{Name}
 use Rattle.affine_ast.specs.declared.types.Access.{Access}
@@ -13,7 +13,7 @@ use Rattle.placement_texts.specs.Mapped.{mapped}
 use Rattle.placement_texts.specs.Own.{OwnPlain, OwnNest, OwnNames, MadeNames}
 use Rattle.placement_texts.specs.Regions.{OwnDims}
 use Rattle.placement_texts.specs.Spots.{Spot, Here, Behind, Inside, Other, IsLoop, HasLine, Disjoint, found, staged_at}
-use Rattle.placement_texts.specs.Template.{Placement, fast_name, tag_name, fast_type, in_fast, begins, behind_loop, redirect, staged_loop}
+use Rattle.placement_texts.specs.Template.{Placement, fast_name, tag_name, fast_type, in_fast, begins, behind_loop, redirect}
 use Rattle.placement_texts.specs.Tests.{behind_scope, loop_scope}
 use Rattle.placement_texts.proofs.Follows.{apart_own}
 use Rattle.placement_texts.proofs.Scoped.{at_same}

@@ -1,22 +1,20 @@
 -- The copy loops, the transfers and the allocations of a template keep to the rule on intervals.
-use Rattle.std.proofs.Common.{◌≡◌, ℕ, suc, ◌+◌, ◌-◌, ◌≤◌, ℤ, pos, neg_ℤ, ◌+ℤ◌, ◌-ℤ◌, ◌≤ℤ◌, Bool, true, false, cond, List, [], ◌∷◌, ◌++◌, length, get_or, map, take, drop, refl, sym, ap, ◌∙◌, subst, arith}
-use Rattle.std.specs.Prelude.{◌&&◌, not, Option, Some, None, int_lt}
+use Rattle.std.proofs.Common.{◌≡◌, ℕ, suc, ◌+◌, ◌-◌, ◌≤◌, ℤ, pos, neg_ℤ, ◌+ℤ◌, ◌-ℤ◌, Bool, true, false, cond, List, [], ◌∷◌, ◌++◌, length, get_or, map, refl, sym, ap, ◌∙◌, subst, arith}
+use Rattle.std.specs.Prelude.{◌&&◌, not, Some, None, int_lt}
 use Rattle.std.specs.Ordering.{int_eq}
 use Rattle.std.specs.List.{list_all}
-use Rattle.std.specs.Int.{int_max}
 use Rattle.std.proofs.lemmas.Int.{ints, clamps}
 use Rattle.std.proofs.lemmas.List.{get_or-append_right, length-append, append_assoc}
 use Rattle.affine_expr.specs.declared.expr.Expr.{Expr, Dim, Const, Add, Sub}
 use Rattle.affine_expr.specs.Bounded.{bounded}
 use Rattle.affine_expr.specs.Pure.{is_outside}
 use Rattle.affine_expr.specs.Spread.{Range, only}
-use Rattle.affine_expr.proofs.Limits.{IsInside, is_inside, not_outside}
+use Rattle.affine_expr.proofs.Limits.{is_inside, not_outside}
 use Rattle.affine_ast.specs.declared.name.Name.{Name}
-use Rattle.affine_ast.specs.declared.types.Bound.TheVariants as bound
 use Rattle.affine_ast.specs.Intervals.{first_turn, last_end, turn_range}
 use Rattle.affine_ast.specs.Names.{put}
 use Rattle.affine_ast.proofs.Names.{put-same, same_name-refl}
-use Rattle.affine_ast.specs.Nest.{Nest, Nothing, Loop, Does}
+use Rattle.affine_ast.specs.Nest.{Nest}
 use Rattle.affine_ast.specs.Rules.{is_small_dimension, has_interval, access_bounded}
 use Rattle.affine_ast.specs.Scope.{Variable, Scope, ranges_in}
 use Rattle.placement_texts.specs.Own.{MadeNames}
@@ -27,9 +25,9 @@ use Rattle.plan_laws.specs.Limits.{bounded_in}
 use Rattle.placed_intervals.specs.Fits.{Inside, CopiesFit, Sized}
 use Rattle.placement_texts.specs.Template.{Copies}
 use Rattle.placed_intervals.proofs.Ranges.{dim_is, const_is, add_is, sub_is}
-use Rattle.placed_intervals.proofs.Front.{number_inside, Changes, changes_then, changes_put, changes_more, changes_kept, BeginIs, Begun, interval_some, variable_small, variable_range}
+use Rattle.placed_intervals.proofs.Front.{number_inside, Changes, changes_then, changes_put, changes_more, changes_kept, Begun, interval_some, variable_small, variable_range}
 
-opposite_inside : (z : ℤ) → is_outside z ≡ false → is_outside (neg_ℤ z) ≡ false
+pub opposite_inside : (z : ℤ) → is_outside z ≡ false → is_outside (neg_ℤ z) ≡ false
 opposite_inside z h =
     let i = is_inside z h in
     let l = i.low in
@@ -40,7 +38,7 @@ opposite_inside z h =
 abbrev pub turn_interval : Dimension → Range
 turn_interval d = record { least = pos 0; greatest = pos d.extent -ℤ pos 1 }
 
-turn_inside : (d : Dimension) → 1 ≤ d.extent → d.extent ≤ d.size → d.size ≤ 1048576 → Inside (turn_interval d)
+pub turn_inside : (d : Dimension) → 1 ≤ d.extent → d.extent ≤ d.size → d.size ≤ 1048576 → Inside (turn_interval d)
 turn_inside d a b c = (refl, not_outside (pos d.extent -ℤ pos 1) (record { low = omega (arith, ints, a); high = omega (arith, ints, b, c) }))
 
 -- ---- intervals in a list, from a number on
@@ -155,7 +153,7 @@ module _ (L : List Range) where
   turns_have_ d bs ds l z h = λ i. zero_has i && turns_have d bs ds l z h i
 
 -- ---- accesses
-length_map : (f : Name → Range) (ns : List Name) → length (map f ns) ≡ length ns
+pub length_map : (f : Name → Range) (ns : List Name) → length (map f ns) ≡ length ns
 length_map f [] = refl
 length_map f (n ∷ ns) = ap suc (length_map f ns)
 
@@ -172,7 +170,7 @@ pub length_begins : (name : ℕ → Name) (k : ℕ) (ds : List Dimension) → le
 length_begins name k [] = refl
 length_begins name k (d ∷ ds) = ap suc (length_begins name (suc k) ds)
 
-length_turns : (turn : ℕ → Name) (d : ℕ) (bs : List Begin) → length (turn_names turn d bs) ≡ length bs
+pub length_turns : (turn : ℕ → Name) (d : ℕ) (bs : List Begin) → length (turn_names turn d bs) ≡ length bs
 length_turns turn d [] = refl
 length_turns turn d (b ∷ bs) = ap suc (length_turns turn (suc d) bs)
 
@@ -219,7 +217,7 @@ module _ (own : Name → Bool) (name : ℕ → Name) (names : MadeNames own name
     turns_small d k [] h = refl
     turns_small d k (x ∷ ds) h = λ i. variable_small s (turn d) (turn_interval x) h.0 i && turns_small (suc d) (suc k) ds h.1 i
 
-    turns_at : (front back : List Range) (n d k : ℕ) (ds : List Dimension) → length front ≡ n → Turned s d ds → TurnsAt (front ++ (map (ranges_in s) (turn_names turn d (begins_from name k ds)) ++ back)) n ds
+    pub turns_at : (front back : List Range) (n d k : ℕ) (ds : List Dimension) → length front ≡ n → Turned s d ds → TurnsAt (front ++ (map (ranges_in s) (turn_names turn d (begins_from name k ds)) ++ back)) n ds
     turns_at front back n d k [] l h = tt
     turns_at front back n d k (x ∷ ds) l h =
         let r = ranges_in s (turn d) in
@@ -232,7 +230,7 @@ module _ (own : Name → Bool) (name : ℕ → Name) (names : MadeNames own name
     no_back [] = refl
     no_back (x ∷ xs) = ap (λ l. x ∷ l) (no_back xs)
 
-    map_append : (g : Name → Range) (xs ys : List Name) → map g (xs ++ ys) ≡ map g xs ++ map g ys
+    pub map_append : (g : Name → Range) (xs ys : List Name) → map g (xs ++ ys) ≡ map g xs ++ map g ys
     map_append g [] ys = refl
     map_append g (x ∷ xs) ys = ap (λ l. g x ∷ l) (map_append g xs ys)
 

@@ -1,14 +1,14 @@
 -- The statements that say where the box begins keep to the rule on intervals, and behind them the places have their intervals.
-use Rattle.std.proofs.Common.{◌≡◌, ℕ, zero, suc, ◌+◌, ◌*◌, ◌≤◌, ℤ, pos, ◌-ℤ◌, ◌≤ℤ◌, Bool, true, false, cond, List, [], ◌∷◌, length, map, take, drop, refl, sym, ap, ◌∙◌, subst, arith}
-use Rattle.std.specs.Prelude.{◌&&◌, Option, Some, None, is_some}
+use Rattle.std.proofs.Common.{◌≡◌, ℕ, suc, ◌+◌, ◌*◌, ◌≤◌, ℤ, pos, ◌≤ℤ◌, Bool, true, false, cond, List, [], ◌∷◌, length, map, refl, sym, ap, ◌∙◌, subst, arith}
+use Rattle.std.specs.Prelude.{◌&&◌, Some, is_some}
 use Rattle.std.specs.List.{list_all}
 use Rattle.std.specs.Int.{int_min, int_max}
 use Rattle.std.proofs.lemmas.Int.{ints, clamps}
 use Rattle.affine_expr.specs.declared.expr.Expr.{Expr, Dim, Const}
 use Rattle.affine_expr.specs.Bounded.{bounded}
 use Rattle.affine_expr.specs.Pure.{is_outside}
-use Rattle.affine_expr.specs.Spread.{Range, Spread, only, range_of, spread}
-use Rattle.affine_expr.proofs.Limits.{IsInside, is_inside, not_outside}
+use Rattle.affine_expr.specs.Spread.{Range, Spread, only, range_of}
+use Rattle.affine_expr.proofs.Limits.{is_inside, not_outside}
 use Rattle.affine_ast.specs.declared.name.Name.{Name}
 use Rattle.affine_ast.specs.declared.types.Pick.TheVariants.{Apply, Min, Max}
 use Rattle.affine_ast.specs.Intervals.{ranges_at, picked_range}
@@ -19,7 +19,7 @@ use Rattle.affine_ast.specs.Rules.{binding_is_small, is_small_dimension, has_int
 use Rattle.affine_ast.specs.Scope.{Binding, Variable, Scope, range_of_binding, ranges_in}
 use Rattle.placement_texts.specs.Own.{OwnNames, MadeNames}
 use Rattle.placement_texts.specs.Regions.{OwnDims}
-use Rattle.placement_texts.specs.Template.{Dimension, place_name, least_name, form, term_names, over_terms, last_place, clamp, value_or_zero, Begin, Fixed, Named, begin, begins_from, place_statement, places_from}
+use Rattle.placement_texts.specs.Template.{Dimension, place_name, least_name, form, term_names, over_terms, last_place, value_or_zero, Begin, Fixed, Named, begin, begins_from, place_statement, places_from}
 use Rattle.placement_texts.proofs.Follows.{apart_own}
 use Rattle.placement_texts.proofs.PlaceRun.{take_whole, drop_whole}
 use Rattle.plan_laws.specs.Limits.{bounded_in}
@@ -107,7 +107,7 @@ Begun s [] (r ∷ rs) = ⊥
 Begun s (b ∷ bs) [] = ⊥
 
 -- ---- maps over the terms' values
-length_terms : (ts : List (Name × ℤ)) → length (term_names ts) ≡ length ts
+pub length_terms : (ts : List (Name × ℤ)) → length (term_names ts) ≡ length ts
 length_terms [] = refl
 length_terms (t ∷ ts) = ap suc (length_terms ts)
 
@@ -120,7 +120,7 @@ unfolding has_interval
 interval_some ds ss e a h = ap is_some h
 
 module _ (s : Scope) (ts : List (Name × ℤ)) where
-  abbrev values : List Range
+  abbrev pub values : List Range
   values = map (ranges_in s) (term_names ts)
 
   ranged : length values ≡ length ts
@@ -132,10 +132,10 @@ module _ (s : Scope) (ts : List (Name × ℤ)) where
       λ i. (ap (list_all (is_small_dimension s)) (take_whole (term_names ts) (length ts) (length_terms ts)) ∙ h) i
       && ((λ j. list_all (has_interval (take_whole values (length ts) ranged j) (drop_whole values (length ts) ranged j)) es) ∙ k) i
 
-  terms_ranges : (es : List Expr) → ranges_at (ranges_in s) (over_terms ts es) ≡ map (range_of values []) es
+  pub terms_ranges : (es : List Expr) → ranges_at (ranges_in s) (over_terms ts es) ≡ map (range_of values []) es
   terms_ranges es = λ j. map (range_of (take_whole values (length ts) ranged j) (drop_whole values (length ts) ranged j)) es
 
-range_is : (ds : List Range) (e : Expr) (a : Spread) → bounded ds [] e ≡ Some a → range_of ds [] e ≡ a.range
+pub range_is : (ds : List Range) (e : Expr) (a : Spread) → bounded ds [] e ≡ Some a → range_of ds [] e ≡ a.range
 range_is ds e a h = ap (λ (x : Spread). x.range) (spread_is ds [] e a h).0
 
 -- a variable's interval is its own, and it may be a dimension
@@ -159,7 +159,7 @@ module _ (own : Name → Bool) (name : ℕ → Name) (names : MadeNames own name
       λ i. interval_some (ranges_in s n ∷ []) [] (Dim 0) _ (dim_is (ranges_in s n ∷ []) [] 0 r (variable_range s n r e) h) i && (interval_some (ranges_in s n ∷ []) [] (Const (pos 0)) _ (const_is (ranges_in s n ∷ []) [] (pos 0) refl) i && true) in
       λ i. (variable_small s n r e i && true) && one i
 
-  zero_ranges : (s : Scope) (n : Name) (r : Range) → s n ≡ Some (Variable r) → Inside r → ranges_at (ranges_in s) (value_or_zero n) ≡ r ∷ only (pos 0) ∷ []
+  pub zero_ranges : (s : Scope) (n : Name) (r : Range) → s n ≡ Some (Variable r) → Inside r → ranges_at (ranges_in s) (value_or_zero n) ≡ r ∷ only (pos 0) ∷ []
   zero_ranges s n r e h =
       let ds = ranges_in s n ∷ [] in
       λ i. range_is ds (Dim 0) _ (dim_is ds [] 0 r (variable_range s n r e) h) i ∷ range_is ds (Const (pos 0)) _ (const_is ds [] (pos 0) refl) i ∷ []

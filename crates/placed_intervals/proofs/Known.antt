@@ -1,6 +1,5 @@
 -- What a region's test on intervals says: of the places, and of each access, under the intervals of the text.
 use Rattle.std.proofs.Common.{◌≡◌, ℕ, ◌+◌, Bool, true, false, cond, List, [], ◌∷◌, ◌++◌, length, map, take, drop, fold, Result, Ok, Err, Option, Some, None, ℤ, refl, sym, ap, ◌∙◌, subst, arith, length-append}
-use Rattle.std.specs.Prelude.{◌&&◌}
 use Rattle.std.proofs.lemmas.Bool.{and_parts}
 use Rattle.constraint_set.specs.Lists.{Each}
 use Rattle.affine_expr.specs.declared.linear.LinearFault.{LinearFault}
@@ -18,7 +17,6 @@ use Rattle.affine_ast.specs.declared.types.Access.{Access}
 use Rattle.affine_ast.specs.declared.types.Bound.{Bound}
 use Rattle.affine_ast.specs.Intervals.{Ranges, range_or, ranges_at, first_turn, last_end, turn_range}
 use Rattle.affine_ast.specs.Names.{put}
-use Rattle.affine_ast.specs.Nest.{Plain}
 use Rattle.direct_meaning.specs.Work.{arg_ranges, ranges_after, start_ranges}
 use Rattle.nest_domain.specs.Ways.{Header, Round, Given, Except, Behind, Past, Use, Affine, Other, used, loop_count, loop_names}
 use Rattle.nest_domain.specs.Forms.{all_floor_rows}
@@ -26,9 +24,9 @@ use Rattle.nest_domain.specs.Domains.{Known, Accessed, operand_forms, map_forms,
 use Rattle.nest_domain.specs.Boxes.{Dimension}
 use Rattle.nest_domain.specs.Ready.{ranges_along, ranges_at_end}
 use Rattle.place_intervals.specs.Places.{place_ranges, copies_fit, subscripts_fit}
-use Rattle.access_region.specs.Faults.{NoRegion, ◌>>=◌, by_form, unplaced}
+use Rattle.access_region.specs.Faults.{◌>>=◌, by_form, unplaced}
 use Rattle.access_region.specs.Candidates.{Reaching}
-use Rattle.access_region.specs.Regions.{has_other, reaching_of, all_reaching, reaching, Outside, outside_at, dimensions}
+use Rattle.access_region.specs.Regions.{has_other, all_reaching, reaching, Outside, outside_at, dimensions}
 use Rattle.access_region.specs.Widening.{for_transfers}
 use Rattle.access_region.specs.Places.{accesses_fit, templates_fit, region_fits, kept_where, region_of}
 use Rattle.access_region.proofs.Inside.{Gives, on, then_by}
@@ -92,7 +90,7 @@ module _ (args : List Arg) where
       and_along way own (with_arguments args (nothing_known (symbol_count args + loop_count way))) (start_ranges args)
       (arguments_known args (nothing_known (symbol_count args + loop_count way))) (all_along way own)
 
-  access_known : (way : List Header) (at : Access) → forms.Gives (access args way at) (λ a. a.known.ranges ≡ end way)
+  pub access_known : (way : List Header) (at : Access) → forms.Gives (access args way at) (λ a. a.known.ranges ≡ end way)
   unfolding access
   access_known way at =
       forms.then (place args way at.operands) _ (HasRanges (end way)) (λ a. a.known.ranges ≡ end way) (place_known way at.operands)
@@ -107,7 +105,7 @@ module _ (args : List Arg) where
       then_by (all_reaching args us) _ (AreOf args us) (AreOf args (Affine way stores at ∷ us)) (all_are_of us) (λ xs h. (record { accessed = a; is = formed_is (access args way at) a e; same = refl }, h)))
   all_are_of (Other ∷ us) = tt
 
-  are_of : (us : List Use) → Gives (reaching args us) (AreOf args us)
+  pub are_of : (us : List Use) → Gives (reaching args us) (AreOf args us)
   are_of us = by (has_other us)
     where
       by : (b : Bool) → Gives (cond b (Err unplaced) (all_reaching args us)) (AreOf args us)
@@ -120,7 +118,7 @@ module _ (args : List Arg) where
     pub are : AreOf args us xs
     pub fits : region_fits (map (end way) (outer_names args way)) xs sizes dma ds ≡ true
 
-  outside_known : (way : List Header) → Gives (outside_at args way) (λ (o : Outside). o.ranges ≡ map (end way) (outer_names args way))
+  pub outside_known : (way : List Header) → Gives (outside_at args way) (λ (o : Outside). o.ranges ≡ map (end way) (outer_names args way))
   outside_known way =
       on (by_form (place args way [])) _ (λ (o : Outside). o.ranges ≡ map (end way) (outer_names args way)) (λ k made.
       ap (λ (rho : Ranges). map rho (outer_names args way)) (subst (λ w. forms.Gives w (HasRanges (end way))) (formed_is (place args way []) k made) (place_known way [])))
@@ -191,12 +189,12 @@ module _ (args : List Arg) where
   loops_long (Behind p ∷ hs) = loops_long hs
   loops_long (Past n ∷ hs) = loops_long hs
 
+  pub outer_long : (way : List Header) → length (outer_names args way) ≡ symbol_count args + loop_count way
+  outer_long way = length-append (symbol_names args) (loop_names way) ∙ (λ i. symbols_long args i + loops_long way i)
+
   pub all_long : (way : List Header) (us : List Use) (sizes : List ℕ) (dma : Bool) (ds : List Dimension) → region_of args way us sizes dma ≡ Ok ds → AllLong (outer_names args way) ds
   all_long way us sizes dma ds e = along ds (regions_are_over args way us sizes ds dma e)
     where
-      long : length (outer_names args way) ≡ symbol_count args + loop_count way
-      long = length-append (symbol_names args) (loop_names way) ∙ (λ i. symbols_long args i + loops_long way i)
-
       along : (ds : List Dimension) → Each (λ (d : Dimension). length d.coefs ≡ symbol_count args + loop_count way) ds → AllLong (outer_names args way) ds
       along [] h = tt
-      along (d ∷ ds) h = (long ∙ sym h.0, along ds h.1)
+      along (d ∷ ds) h = (outer_long way ∙ sym h.0, along ds h.1)

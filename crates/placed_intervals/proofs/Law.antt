@@ -1,6 +1,6 @@
 -- The law: with each placement more a text keeps to the rule on intervals.
-use Rattle.std.proofs.Common.{◌≡◌, ◌⊎◌, inl, inr, ℕ, suc, ◌≤◌, ℤ, List, [], ◌∷◌, ◌++◌, refl, sym, ap, ◌∙◌, subst, arith, Bool, true, false}
-use Rattle.std.specs.Prelude.{◌&&◌, None, Some}
+use Rattle.std.proofs.Common.{◌≡◌, ◌⊎◌, inl, inr, ℕ, suc, ℤ, List, [], ◌∷◌, ◌++◌, refl, sym, ap, ◌∙◌, arith, Bool, true, false}
+use Rattle.std.specs.Prelude.{◌&&◌, None}
 use Rattle.std.proofs.lemmas.Bool.{le-leb}
 use Rattle.affine_expr.specs.Spread.{Range}
 use Rattle.affine_ast.specs.declared.module.Module.{Module}
@@ -14,10 +14,10 @@ use Rattle.direct_meaning.specs.Static.{Env}
 use Rattle.valid_laws.proofs.Passing.{judged_passed, then_passed, plain_holds, loop_holds, condition_holds}
 use Rattle.boxes.specs.Every.{Every}
 use Rattle.placement_texts.specs.Fold.{Step, staged_all, there, Fits, AllFit, Parted, AllParted}
-use Rattle.placement_texts.specs.Own.{OwnNest, MadeNames}
+use Rattle.placement_texts.specs.Own.{OwnNest}
 use Rattle.placement_texts.specs.Spots.{IsLoop, HasLine, Disjoint, found, stage_one}
-use Rattle.placement_texts.specs.Template.{Placement, fast_name, tag_name}
-use Rattle.placement_texts.specs.Valid.{OwnArguments, scope_behind_arguments}
+use Rattle.placement_texts.specs.Template.{fast_name, tag_name}
+use Rattle.placement_texts.specs.Valid.{scope_behind_arguments}
 use Rattle.placement_texts.proofs.Folded.{later, dims_later, made_names}
 use Rattle.placement_texts.proofs.Follows.{apart_own}
 use Rattle.placement_texts.proofs.FoundSpots.{staged_stays, found_disjoint}
@@ -29,13 +29,13 @@ use Rattle.plan_laws.specs.Limits.{bounded_in, keeps_intervals}
 use Rattle.staged_plans.specs.Plans.{IsPlanned}
 use Rattle.staged_plans.proofs.Theorem.{all_fit, type_is}
 use Rattle.placed_intervals.specs.Fits.{FitsAt}
-use Rattle.placed_intervals.specs.Law.{ArePlaced, PlacedKeepIntervals, OneMoreKeepsIntervals}
+use Rattle.placed_intervals.specs.Law.{PlacedKeepIntervals, OneMoreKeepsIntervals}
 use Rattle.placed_intervals.proofs.Staged.{staged_bounded}
 use Rattle.placed_intervals.proofs.Carried.{carried}
 use Rattle.placed_intervals.proofs.Reached.{region_fits_there}
 
 -- ---- a text that breaks no rule breaks none on intervals
-told_bounded : (n : Nest) (a : Around) (t : Totals) → told n a ≡ Passed t → bounded_in n a.scope ≡ true
+pub told_bounded : (n : Nest) (a : Around) (t : Totals) → told n a ≡ Passed t → bounded_in n a.scope ≡ true
 unfolding told
 told_bounded Nothing a t h = refl
 told_bounded (Loop line v l u s body rest) a t h =

@@ -23,7 +23,7 @@ use Rattle.place_intervals.specs.Places as places
 use Rattle.place_intervals.specs.Places.{place_expr, terms_behind, chosen, range_of_spread, clamped_range, number_range, place_range, place_ranges, with_range, fits, copies_fit, subscripts_fit}
 use Rattle.place_intervals.specs.TermRanges as terms
 use Rattle.place_intervals.proofs.PlaceRanged.{form_range_is}
-use Rattle.placement_texts.specs.Template.{Dimension, How, Copies, Transfers, form, join_terms, first_term, term, term_names, clamp, last_place}
+use Rattle.placement_texts.specs.Template.{Dimension, Copies, form, join_terms, first_term, term_names, clamp, last_place}
 use Rattle.placement_regions.specs.Sites.{terms_over, offset_over, dim_over, dims_over}
 use Rattle.placement_regions.proofs.Extents.{Fits, AllFit, AllSome}
 use Rattle.placed_intervals.specs.Fits.{Inside, clamped_by, PlaceFits, PlacesFit, CopiesFit, LessFit, Sized}
@@ -39,19 +39,19 @@ abbrev pub AllSmall : List ℕ → Type 0
 AllSmall [] = Unit {0}
 AllSmall (n ∷ ns) = (n ≤ 1048576) × AllSmall ns
 
-gap_is : (z : ℤ) → pos 1 ≤ℤ z → pos (gap z) ≡ z
+pub gap_is : (z : ℤ) → pos 1 ≤ℤ z → pos (gap z) ≡ z
 gap_is (pos n) h = refl
 gap_is (negsuc n) h = absurd (omega (arith, ints, h))
 
 -- ---- the terms that a place has
-zero_terms : (ns : List Name) (cs : List ℤ) → length ns ≡ length cs → all_zero cs ≡ true → terms_over ns cs ≡ []
+pub zero_terms : (ns : List Name) (cs : List ℤ) → length ns ≡ length cs → all_zero cs ≡ true → terms_over ns cs ≡ []
 zero_terms [] cs l h = refl
 zero_terms (n ∷ ns) [] l h = refl
 zero_terms (n ∷ ns) (a ∷ cs) l h =
     let p = and_parts (int_eq a (pos 0)) (all_zero cs) h in
     ap (λ b. cond b (terms_over ns cs) ((n, a) ∷ terms_over ns cs)) p.0 ∙ zero_terms ns cs (omega (arith, l)) p.1
 
-some_terms : (ns : List Name) (cs : List ℤ) → length ns ≡ length cs → all_zero cs ≡ false → (t : Name × ℤ) × (ts : List (Name × ℤ)) × (terms_over ns cs ≡ t ∷ ts)
+pub some_terms : (ns : List Name) (cs : List ℤ) → length ns ≡ length cs → all_zero cs ≡ false → (t : Name × ℤ) × (ts : List (Name × ℤ)) × (terms_over ns cs ≡ t ∷ ts)
 some_terms [] [] l h = absurd (let z : ⊥ = cc in z)
 some_terms [] (a ∷ cs) l h = absurd (omega (arith, l))
 some_terms (n ∷ ns) [] l h = absurd (omega (arith, l))
@@ -62,7 +62,7 @@ some_terms (n ∷ ns) (a ∷ cs) l h = by (int_eq a (pos 0)) refl h (some_terms 
     by false e h more = ((n, a), terms_over ns cs, refl)
 
 -- their values
-chosen_are : (f : Name → Range) (ns : List Name) (cs : List ℤ) → chosen cs (map f ns) ≡ map f (term_names (terms_over ns cs))
+pub chosen_are : (f : Name → Range) (ns : List Name) (cs : List ℤ) → chosen cs (map f ns) ≡ map f (term_names (terms_over ns cs))
 chosen_are f [] [] = refl
 chosen_are f [] (a ∷ cs) = refl
 chosen_are f (n ∷ ns) [] = refl
@@ -92,7 +92,7 @@ first_same n a = by (int_eq a (pos 1)) (int_eq a (neg_ℤ (pos 1))) refl refl
     by false true e f = refl
     by false false e f = refl
 
-expr_is : (ns : List Name) (cs : List ℤ) (k : ℤ) → length ns ≡ length cs → place_expr cs k ≡ form (terms_over ns cs) k
+pub expr_is : (ns : List Name) (cs : List ℤ) (k : ℤ) → length ns ≡ length cs → place_expr cs k ≡ form (terms_over ns cs) k
 expr_is [] [] k l = refl
 expr_is [] (a ∷ cs) k l = absurd (omega (arith, l))
 expr_is (n ∷ ns) [] k l = refl
@@ -191,10 +191,10 @@ module _ (s : Scope) where
   clamped_some c most None r h = absurd (let z : ⊥ = cc in z)
   clamped_some c most (Some x) r h = (x, refl, h)
 
-  turn_clamp : (z most last : ℤ) → last ≡ most → int_max (pos 0) (int_min z most) ≡ int_max (int_min z last) (pos 0)
+  pub turn_clamp : (z most last : ℤ) → last ≡ most → int_max (pos 0) (int_min z most) ≡ int_max (int_min z last) (pos 0)
   turn_clamp z most last e = omega (arith, ints, clamps, e)
 
-  clamp_twice : (z most last : ℤ) → last ≡ most → int_max (int_min z last) (pos 0) ≡ int_max (int_min (int_max (int_min z most) (pos 0)) last) (pos 0)
+  pub clamp_twice : (z most last : ℤ) → last ≡ most → int_max (int_min z last) (pos 0) ≡ int_max (int_min (int_max (int_min z most) (pos 0)) last) (pos 0)
   clamp_twice z most last e = omega (arith, ints, clamps, e)
 
   clamp_same : (c : Bool) (D : Dimension) (most : ℤ) → last_place D ≡ most → (x r : Range) → clamped_range c most (Some x) ≡ Some r → r ≡ clamped_by c D x

@@ -1,13 +1,13 @@
 -- The intervals of expressions, part by part.
-use Rattle.std.proofs.Common.{◌≡◌, ℕ, ℤ, pos, Bool, true, false, cond, List, [], ◌∷◌, ◌++◌, length, get_or, refl, sym, ap, ◌∙◌, subst}
+use Rattle.std.proofs.Common.{◌≡◌, ℕ, ℤ, pos, Bool, true, false, cond, List, ◌++◌, length, get_or, refl, sym, ap, ◌∙◌, subst}
 use Rattle.std.specs.Prelude.{◌||◌, Option, Some, None}
 use Rattle.std.proofs.lemmas.Bool.{and_parts, ltb-true}
 use Rattle.std.proofs.lemmas.List.{get_or_append_left}
-use Rattle.affine_expr.specs.declared.expr.Expr.{Expr, Dim, Const, Neg, Add, Sub, fold-Expr, fold-roll-Expr, ind-Expr, map-Expr, roll-Expr}
+use Rattle.affine_expr.specs.declared.expr.Expr.{Expr, Dim, Const, Add, Sub, fold-Expr, fold-roll-Expr, ind-Expr, map-Expr, roll-Expr}
 use Rattle.affine_expr.specs.declared.expr.Expr.TheVariants.{rolls-Dim, rolls-Const, rolls-Add, rolls-Sub}
 use Rattle.affine_expr.specs.declared.expr.Expr.TheOpen.{Expr-F}
 use Rattle.affine_expr.specs.Bounded.{◌>>=◌, limited, bounded, bounded_step}
-use Rattle.affine_expr.specs.Pure.{is_outside, has_leaves_below, leaves_step}
+use Rattle.affine_expr.specs.Pure.{is_outside, has_leaves_below}
 use Rattle.affine_expr.specs.Spread.{Range, Spread, only, spread, spread_step}
 use Rattle.placed_intervals.specs.Fits.{Inside}
 
@@ -60,6 +60,30 @@ module _ (ds ss : List Range) where
 
   pub sub_is : (e f : Expr) (a b : Spread) → bounded ds ss e ≡ Some a → bounded ds ss f ≡ Some b → Inside (spread_step ds ss (Expr-F.Sub a b)).range → bounded ds ss (Sub e f) ≡ Some (spread_step ds ss (Expr-F.Sub a b))
   sub_is e f a b p q h = bounded-Sub e f ∙ (λ i. bounded_step ds ss (Expr-F.Sub (p i) (q i))) ∙ limited_inside (spread_step ds ss (Expr-F.Sub a b)) h
+
+  -- what the interval of a whole says of its parts
+  pub dim_of : (n : ℕ) (a : Spread) → bounded ds ss (Dim n) ≡ Some a → (a.range ≡ get_or ds n (only (pos 0))) × Inside a.range
+  dim_of n a h =
+      let k = inside_limited (record { range = get_or ds n (only (pos 0)); fixed = None }) a (sym (bounded-Dim n) ∙ h) in
+      (ap (λ (x : Spread). x.range) (sym k.0), subst (λ (x : Spread). Inside x.range) k.0 k.1)
+
+  pub record Parts (e f : Expr) (S : Spread → Spread → Spread) (c : Spread) : Type 0 where
+    pub first : Spread
+    pub second : Spread
+    pub first_is : bounded ds ss e ≡ Some first
+    pub second_is : bounded ds ss f ≡ Some second
+    pub inside : Inside (S first second).range
+
+  parts_by : (e f : Expr) (S : Spread → Spread → Spread) (c : Spread) (x y : Option Spread) → bounded ds ss e ≡ x → bounded ds ss f ≡ y → (x >>= (λ a. y >>= (λ b. limited (S a b)))) ≡ Some c → Parts e f S c
+  parts_by e f S c None y p q h = absurd (let z : ⊥ = cc in z)
+  parts_by e f S c (Some a) None p q h = absurd (let z : ⊥ = cc in z)
+  parts_by e f S c (Some a) (Some b) p q h = record { first = a; second = b; first_is = p; second_is = q; inside = (inside_limited (S a b) c h).1 }
+
+  pub add_of : (e f : Expr) (c : Spread) → bounded ds ss (Add e f) ≡ Some c → Parts e f (λ a b. spread_step ds ss (Expr-F.Add a b)) c
+  add_of e f c h = parts_by e f (λ a b. spread_step ds ss (Expr-F.Add a b)) c (bounded ds ss e) (bounded ds ss f) refl refl (sym (bounded-Add e f) ∙ h)
+
+  pub sub_of : (e f : Expr) (c : Spread) → bounded ds ss (Sub e f) ≡ Some c → Parts e f (λ a b. spread_step ds ss (Expr-F.Sub a b)) c
+  sub_of e f c h = parts_by e f (λ a b. spread_step ds ss (Expr-F.Sub a b)) c (bounded ds ss e) (bounded ds ss f) refl refl (sym (bounded-Sub e f) ∙ h)
 
   -- ---- where all parts keep to the limits, the interval is that without limits
   abbrev IsSpread : Expr → Type 0

@@ -1,6 +1,6 @@
 -- At a placement's loop in a valid module its template fits.
-use Rattle.std.proofs.Common.{◌≡◌, ℕ, ◌≤◌, Bool, true, false, cond, List, [], ◌∷◌, ◌++◌, map, fold, Some, None, Ok, ℤ, pos, refl, sym, ap, ◌∙◌, subst, arith}
-use Rattle.std.specs.Prelude.{◌&&◌, not, Option, is_some, nat_eq}
+use Rattle.std.proofs.Common.{◌≡◌, ℕ, Bool, true, false, cond, List, [], ◌∷◌, ◌++◌, map, fold, Some, None, pos, refl, sym, ap, ◌∙◌, subst, arith}
+use Rattle.std.specs.Prelude.{not, Option, is_some, nat_eq}
 use Rattle.std.proofs.lemmas.Bool.{and_parts, eqb-true}
 use Rattle.std.specs.Cmp.Lexicographic.{pointwise}
 use mathlib.Core.Path.{fun_ext}
@@ -22,9 +22,9 @@ use Rattle.affine_ast.specs.Intervals.{Ranges, ranges_at, first_turn, last_end, 
 use Rattle.affine_ast.specs.Names.{same_name, put}
 use Rattle.affine_ast.proofs.Names.{put-same, put-other, same_name-eq}
 use Rattle.affine_ast.specs.Nest.{Plain, Nest, Nothing, Loop, Branch, Does, Value, Load, Store, RawLoad, RawStore, Constant, Binary, Cast, Alloc, Dealloc, Start, Wait, Return, nest}
-use Rattle.affine_ast.specs.Rules.{is_in, is_new, defines_new, same_type, same_element, is_memref_of, binding_is_memref_of, is_of, subscripts_fit, map_fits, types_agree, counts_fit}
+use Rattle.affine_ast.specs.Rules.{is_in, defines_new, same_type, same_element, is_memref_of, binding_is_memref_of, is_of, subscripts_fit, map_fits, types_agree}
 use Rattle.affine_ast.specs.Scope.{Binding, Variable, Scope, range_of_binding, ranges_in, Totals, Around, with_totals, counted, in_loop, in_condition, behind_plain}
-use Rattle.affine_ast.specs.Sizes.{product, element_bits}
+use Rattle.affine_ast.specs.Sizes.{element_bits}
 use Rattle.affine_ast.specs.Validity.{Passed, then_told, told, rule_of_plain, rule_of_loop, rule_of_condition, outside, behind_argument, IsValid}
 use Rattle.direct_meaning.specs.Work.{ranges_after, arg_ranges, start_ranges}
 use Rattle.valid_laws.proofs.Passing.{judged_passed, then_passed, Holds, plain_holds, loop_holds}
@@ -36,8 +36,8 @@ use Rattle.place_intervals.specs.Places.{place_ranges, copies_fit}
 use Rattle.access_region.proofs.ReadyUses.{ends_with}
 use Rattle.placement_texts.specs.Spots as spot
 use Rattle.placement_texts.specs.Spots.{Spot, Here, IsLoop}
-use Rattle.placement_texts.specs.Template.{Placement, How, Copies, Transfers, slow_type, dim_sizes}
-use Rattle.placement_texts.specs.Tests.{Argued, behind_scope, loop_scope, scope_at}
+use Rattle.placement_texts.specs.Template.{Placement, Copies, slow_type, dim_sizes}
+use Rattle.placement_texts.specs.Tests.{Argued, loop_scope, scope_at}
 use Rattle.placement_texts.specs.Valid.{HasArgument, scope_behind_arguments}
 use Rattle.placement_texts.proofs.ScopedTexts.{loop_argued, plain_argued, scope_behind}
 use Rattle.placement_texts.proofs.StagedValid.{scope_is, arguments_argued}
@@ -72,10 +72,10 @@ ranges_kept s n b e new = fun_ext (λ m. cases (same_name n m)
     none None h = refl
     none (Some x) h = absurd (let z : ⊥ = cc in z)
 
-ranges_loop : (s : Scope) (v : Name) (l u : Bound) → ranges_in (loop_scope v l u s) ≡ put (ranges_in s) v (turn_range (first_turn (ranges_in s) l) (last_end (ranges_in s) u))
+pub ranges_loop : (s : Scope) (v : Name) (l u : Bound) → ranges_in (loop_scope v l u s) ≡ put (ranges_in s) v (turn_range (first_turn (ranges_in s) l) (last_end (ranges_in s) u))
 ranges_loop s v l u = ranges_put s v (Variable (turn_range (first_turn (ranges_in s) l) (last_end (ranges_in s) u)))
 
-ranges_behind : (q : Plain) (a : Around) → defines_new a.scope q ≡ true → ranges_in (behind_plain q (counted a)).scope ≡ ranges_after q (ranges_in a.scope)
+pub ranges_behind : (q : Plain) (a : Around) → defines_new a.scope q ≡ true → ranges_in (behind_plain q (counted a)).scope ≡ ranges_after q (ranges_in a.scope)
 ranges_behind (Value r pick at) a new = ranges_put a.scope r _
 ranges_behind (Load r m at ty) a new = ranges_put a.scope r _
 ranges_behind (Store x m at ty) a new = refl
@@ -95,11 +95,11 @@ ranges_argument : (arg : Arg) (k : ArgKind) (a : Around) → ArgumentHolds a arg
 ranges_argument arg (kind.Memref ty) a h = ranges_kept a.scope arg.name _ refl h.new_name
 ranges_argument arg (kind.Index range) a h = ranges_put a.scope arg.name _
 
-ranges_arguments : (args : List Arg) (a : Around) → ArgumentsHold args a → ranges_in (behind_arguments args a).scope ≡ fold arg_ranges (ranges_in a.scope) args
+pub ranges_arguments : (args : List Arg) (a : Around) → ArgumentsHold args a → ranges_in (behind_arguments args a).scope ≡ fold arg_ranges (ranges_in a.scope) args
 ranges_arguments [] a h = refl
 ranges_arguments (arg ∷ args) a h = ranges_arguments args (behind_argument arg.name arg.kind a) h.1 ∙ ap (λ (rho : Ranges). fold arg_ranges rho args) (ranges_argument arg arg.kind a h.0)
 
-nothing_ranges : ranges_in outside.scope ≡ (λ n. only (pos 0))
+pub nothing_ranges : ranges_in outside.scope ≡ (λ n. only (pos 0))
 unfolding ranges_in
 nothing_ranges = refl
 
@@ -163,13 +163,13 @@ module _ (args : List Arg) (p : Placement) (rs : List Range) where
   access_fits Return a rest w more known argued j h = tt
 
   -- one thing more on the way
-  further : (w : List Header) (h : Header) (rho : Ranges) → rho ≡ ranges_along h (end args w) → rho ≡ end args (w ++ h ∷ [])
+  pub further : (w : List Header) (h : Header) (rho : Ranges) → rho ≡ ranges_along h (end args w) → rho ≡ end args (w ++ h ∷ [])
   further w h rho e = e ∙ sym (ends_with w h (start_ranges args))
 
-  same_argued : (a b : Around) → b.scope ≡ a.scope → b.released ≡ a.released → Argued p a → Argued p b
+  pub same_argued : (a b : Around) → b.scope ≡ a.scope → b.released ≡ a.released → Argued p a → Argued p b
   same_argued a b e f h = record { scope = ap (λ s. s p.memref) e ∙ h.scope; live = ap (λ s. s p.memref) f ∙ h.live }
 
-  text_fits : (n : Nest) (a : Around) (t : Totals) (w : List Header) → told n a ≡ Passed t → ranges_in a.scope ≡ end args w → Argued p a → Each (UseFits args rs) (uses p.memref n w) → Under (AccessFits p rs) n a.scope
+  pub text_fits : (n : Nest) (a : Around) (t : Totals) (w : List Header) → told n a ≡ Passed t → ranges_in a.scope ≡ end args w → Argued p a → Each (UseFits args rs) (uses p.memref n w) → Under (AccessFits p rs) n a.scope
   unfolding told uses
   text_fits Nothing a t w h known argued k = tt
   text_fits (Loop line v l u s body rest) a t w h known argued k =
@@ -214,7 +214,7 @@ module _ (args : List Arg) (p : Placement) (rs : List Range) where
     pub argued : Argued p around
     pub loop : IsLoop Here (from_spot x n)
 
-  reached : (x : Spot) (n : Nest) (a : Around) (t : Totals) (rho : Ranges) → told n a ≡ Passed t → IsLoop x n → ranges_in a.scope ≡ rho → Argued p a → Reached x n a rho
+  pub reached : (x : Spot) (n : Nest) (a : Around) (t : Totals) (rho : Ranges) → told n a ≡ Passed t → IsLoop x n → ranges_in a.scope ≡ rho → Argued p a → Reached x n a rho
   unfolding told
   reached x Nothing a t rho h is known argued = absurd is
   reached Here (Loop line v l u s body rest) a t rho h is known argued = record { around = a; totals = t; scope = refl; passed = h; ranges = known; argued = argued; loop = tt }

@@ -13,7 +13,6 @@ use Rattle.affine_ast.specs.declared.name.Name.{Name}
 use Rattle.affine_ast.specs.declared.types.Access.{Access}
 use Rattle.affine_ast.specs.declared.types.MemrefType.{MemrefType}
 use Rattle.affine_ast.specs.declared.types.Scalar.TheVariants.{Int, Index}
-use Rattle.affine_ast.specs.Intervals.{ranges_at}
 use Rattle.affine_ast.specs.Names.{same_name, put}
 use Rattle.affine_ast.proofs.Names.{put-other}
 use Rattle.affine_ast.specs.Nest.{Plain, Nest, Nothing, Loop, Branch, Does, Value, Load, Store, RawLoad, RawStore, Constant, Binary, Cast, Alloc, Dealloc, Start, Wait, Return}
@@ -30,7 +29,7 @@ use Rattle.placed_intervals.specs.Fits.{Inside, LessFit, SubscriptsFit, AccessFi
 use Rattle.placed_intervals.proofs.Ranges.{dim_is, const_is, sub_is, spread_is, stays}
 use Rattle.placed_intervals.proofs.Scopes.{Agree, take_own, smalls_same, ranges_same, set_same, bound_same, maps_same, loop_agrees, behind_agrees}
 use Rattle.placed_intervals.proofs.Front.{BeginIs, Begun, interval_some}
-use Rattle.placed_intervals.proofs.Copies.{PlacesAt, const_has, places_at, named_small}
+use Rattle.placed_intervals.proofs.Copies.{PlacesAt, places_at, named_small}
 
 pub some_interval : (ds ss : List Range) (e : Expr) → has_interval ds ss e ≡ true → (a : Spread) × (bounded ds ss e ≡ Some a)
 unfolding has_interval
@@ -63,18 +62,18 @@ module _ (ds ss : List Range) where
 
 -- ---- one subscript less a place
 module _ (A X S : List Range) (syms : ℕ) where
-  abbrev L : List Range
+  abbrev pub L : List Range
   L = A ++ X
 
   module _ (e : Expr) (own_interval : has_interval A S e ≡ true) (leaves : has_leaves_below (length A) syms e ≡ true) where
     -- its interval among more dimensions
-    abbrev a : Spread
+    abbrev pub a : Spread
     a = (some_interval A S e own_interval).0
 
-    still : bounded L S e ≡ Some a
+    pub still : bounded L S e ≡ Some a
     still = stays A X S syms e leaves ∙ (some_interval A S e own_interval).1
 
-    ranged : range_of A S e ≡ a.range
+    pub ranged : range_of A S e ≡ a.range
     ranged = ap (λ (x : Spread). x.range) (spread_is A S e a (some_interval A S e own_interval).1).0
 
     pub still_has : has_interval L S e ≡ true
@@ -120,21 +119,21 @@ module _ (A X S : List Range) (syms : ℕ) where
       λ i. named_has e i1.0 l1.0 k r p.0 p.1 f.0 i && less_have (suc k) es bs rs i1.1 l1.1 f.1 p.2 i
 
 -- ---- an access
-map_take : (f : Name → Range) (n : ℕ) (xs : List Name) → map f (take n xs) ≡ take n (map f xs)
+pub map_take : (f : Name → Range) (n : ℕ) (xs : List Name) → map f (take n xs) ≡ take n (map f xs)
 map_take f zero xs = refl
 map_take f (suc n) [] = refl
 map_take f (suc n) (x ∷ xs) = ap (λ l. f x ∷ l) (map_take f n xs)
 
-map_drop : (f : Name → Range) (n : ℕ) (xs : List Name) → map f (drop n xs) ≡ drop n (map f xs)
+pub map_drop : (f : Name → Range) (n : ℕ) (xs : List Name) → map f (drop n xs) ≡ drop n (map f xs)
 map_drop f zero xs = refl
 map_drop f (suc n) [] = refl
 map_drop f (suc n) (x ∷ xs) = map_drop f n xs
 
-map_append : (g : Name → Range) (xs ys : List Name) → map g (xs ++ ys) ≡ map g xs ++ map g ys
+pub map_append : (g : Name → Range) (xs ys : List Name) → map g (xs ++ ys) ≡ map g xs ++ map g ys
 map_append g [] ys = refl
 map_append g (x ∷ xs) ys = ap (λ l. g x ∷ l) (map_append g xs ys)
 
-length_taken : (f : Name → Range) (n : ℕ) (xs : List Name) → n ≤ length xs → length (take n (map f xs)) ≡ n
+pub length_taken : (f : Name → Range) (n : ℕ) (xs : List Name) → n ≤ length xs → length (take n (map f xs)) ≡ n
 length_taken f zero xs h = refl
 length_taken f (suc n) [] h = absurd (omega (arith, h))
 length_taken f (suc n) (x ∷ xs) h = let e = length_taken f n xs (omega (arith, h)) in omega (arith, e)

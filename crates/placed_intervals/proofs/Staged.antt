@@ -1,5 +1,5 @@
 -- A text in which a memref is staged keeps to the rule on intervals, where the text did and the template fits at the loop.
-use Rattle.std.proofs.Common.{◌≡◌, List, [], ◌∷◌, ap, ◌∙◌, Bool, true, false}
+use Rattle.std.proofs.Common.{◌≡◌, List, ◌∙◌, Bool, true}
 use Rattle.std.specs.Prelude.{◌&&◌}
 use Rattle.std.proofs.lemmas.Bool.{and_parts}
 use Rattle.affine_expr.specs.Spread.{Range}

@@ -1,6 +1,6 @@
 -- The plan is what it is without its test on intervals.
-use Rattle.std.proofs.Common.{◌≡◌, ◌⊎◌, inl, inr, ℕ, suc, ◌+◌, ◌≤◌, ℤ, List, [], ◌∷◌, ◌++◌, length, Bool, true, false, cond, Option, Some, None, Result, Ok, Err, refl, sym, ap, ◌∙◌, subst, arith}
-use Rattle.std.specs.Prelude.{fold, map, not, ◌&&◌, nat_lt}
+use Rattle.std.proofs.Common.{◌≡◌, ◌⊎◌, inl, inr, ℕ, suc, ◌+◌, ◌≤◌, List, [], ◌∷◌, ◌++◌, length, Bool, true, false, cond, Option, Some, None, Result, Ok, Err, refl, sym, ap, ◌∙◌, subst, arith}
+use Rattle.std.specs.Prelude.{fold, not, ◌&&◌, nat_lt}
 use Rattle.affine_ast.specs.declared.module.Arg.{Arg}
 use Rattle.affine_ast.specs.declared.module.Module.{Module}
 use Rattle.affine_ast.specs.declared.name.Name.{Name}
@@ -40,7 +40,6 @@ use Rattle.plan_theorem.proofs.Counts.{Wraps, wraps_apart, firsts_accessed, Diff
 use Rattle.plan_theorem.proofs.Homes.{has_argument, home_is}
 use Rattle.plan_theorem.proofs.Steps.{From}
 use Rattle.plan_theorem.proofs.Theorem.{plans_are_plans}
-use Rattle.placed_intervals.specs.Law.{ArePlaced}
 use Rattle.placed_intervals.specs.Untested.{fitted_in, fitted_from, fitted_for, decided_so, untested, PlanNeedsNoTest}
 use Rattle.placed_intervals.proofs.Law.{one_more_keeps_intervals}
 

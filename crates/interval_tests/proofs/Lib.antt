@@ -1,0 +1,9 @@
+pub mod Backward
+pub mod Unblock
+pub mod Places
+pub mod Unstaged
+pub mod Bodies
+pub mod Uses
+pub mod Boxed
+pub mod Theorem
+pub mod Planned
