@@ -4,3 +4,4 @@ pub mod Later
 pub mod Starts
 pub mod Texts
 pub mod Calm
+pub mod Ahead

@@ -2,3 +2,4 @@ pub mod Readings
 pub mod Starts
 pub mod Texts
 pub mod Calm
+pub mod Ahead

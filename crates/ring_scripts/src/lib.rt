@@ -4,6 +4,7 @@
 //! the single text has one. What is said here has no run in it: it is of the lists of actions alone.
 #![tactic(auto)]
 
+ghost use Rattle.ring_scripts.specs.Ahead.{StartsAreSteps};
 ghost use Rattle.ring_scripts.specs.Calm.{ElsewhereIsCalm, NoClashIsCalm};
 ghost use Rattle.ring_scripts.specs.Readings.{AccessInRing, LoopsAreCut, RingPlaceIs, TagInRing};
 ghost use Rattle.ring_scripts.specs.Starts.{BoxIsLater, LeavesInRing, StartsAhead, WaitsInRing};
@@ -72,4 +73,9 @@ pub fn no_clash_is_calm()
 /// What goes to another memref meets no transfer of the box.
 pub fn elsewhere_is_calm()
     ensures { ElsewhereIsCalm }
+{}
+
+/// The text of a turn's starts does what the second run does in the steps of a ring's starts.
+pub fn starts_are_steps()
+    ensures { StartsAreSteps }
 {}
