@@ -1,5 +1,6 @@
 -- A loop of a module in the text with a line for each statement, and in the texts of a plan.
-use Rattle.std.proofs.Common.{◌≡◌, zero, suc, List, [], ◌∷◌, ◌++◌, refl, sym, ap, ◌∙◌, subst}
+use Rattle.std.proofs.Common.{◌≡◌, zero, suc, ◌+◌, List, [], ◌∷◌, ◌++◌, length, map, arith, refl, sym, ap, ◌∙◌, subst}
+use Rattle.std.proofs.lemmas.List.{length-map, length-append}
 use Rattle.affine_ast.specs.declared.name.Name.{Name}
 use Rattle.affine_ast.specs.Nest.{Nest, Nothing, Loop, Branch, Does}
 use Rattle.boxes.specs.Every.{Every}
@@ -7,9 +8,9 @@ use Rattle.nest_domain.specs.Ways.{loop_count}
 use Rattle.placement_texts.specs.Fold.{Step}
 use Rattle.placement_texts.specs.Spots.{Spot, Here, Behind, Inside, Other, IsLoop, HasLine, found}
 use Rattle.placement_regions.specs.Sites.{from_spot, way_to}
-use Rattle.plan_laws.specs.Sites.{lined}
+use Rattle.plan_laws.specs.Sites.{lined, loops_round, further}
 use Rattle.text_limits.specs.Adding.{accesses_of, accesses_in, accesses_in_loop, condition_count}
-use Rattle.text_limits.specs.Leaving.{Stands, PlannedAreDescribed}
+use Rattle.text_limits.specs.Leaving.{Stands, PlannedAreDescribed, RoundsAreCounted}
 use Rattle.text_limits.proofs.Left.{placements_leave}
 use Rattle.text_limits.proofs.Used.{uses_are_accesses}
 
@@ -67,3 +68,47 @@ planned_are_described p s n ss h all alone =
       in_ifs = sym (left.ifs ∙ ap (λ s. condition_count (way_to s (lined n))) r.2 ∙ r.4);
       uses = uses_are_accesses n m s ∙ sym (left.accesses ∙ ap (λ s. accesses_in_loop m (from_spot s (lined n))) r.2 ∙ r.5);
     }
+
+-- ---- a loop's path
+round_count : (s : Spot) (n : Nest) → length (loops_round s n) ≡ loop_count (way_to s n)
+round_count s Nothing = none s
+  where
+    none : (s : Spot) → length (loops_round s Nothing) ≡ loop_count (way_to s Nothing)
+    none Here = refl
+    none (Behind s) = refl
+    none (Inside s) = refl
+    none (Other s) = refl
+round_count Here (Loop line v l u step body rest) = refl
+round_count (Behind s) (Loop line v l u step body rest) = length-map (loops_round s rest) Behind ∙ round_count s rest
+round_count (Inside s) (Loop line v l u step body rest) =
+    let a = length-append (map Inside (loops_round s body)) (Here ∷ []) in
+    let b = length-map (loops_round s body) Inside in
+    let c = round_count s body in
+    omega (arith, a, b, c)
+round_count (Other s) (Loop line v l u step body rest) = refl
+round_count Here (Branch line set names first has other rest) = refl
+round_count (Behind s) (Branch line set names first has other rest) = length-map (loops_round s rest) Behind ∙ round_count s rest
+round_count (Inside s) (Branch line set names first has other rest) = length-map (loops_round s first) Inside ∙ round_count s first
+round_count (Other s) (Branch line set names first has other rest) = length-map (loops_round s other) Other ∙ round_count s other
+round_count Here (Does line q rest) = refl
+round_count (Behind s) (Does line q rest) = length-map (loops_round s rest) Behind ∙ round_count s rest
+round_count (Inside s) (Does line q rest) = refl
+round_count (Other s) (Does line q rest) = refl
+
+further_count : (s : Spot) (n : Nest) → IsLoop s n → length (further s) ≡ loop_count (way_to s n) + condition_count (way_to s n)
+further_count s Nothing h = absurd h
+further_count Here (Loop line v l u step body rest) h = refl
+further_count (Behind s) (Loop line v l u step body rest) h = further_count s rest h
+further_count (Inside s) (Loop line v l u step body rest) h = let e = further_count s body h in omega (arith, e)
+further_count (Other s) (Loop line v l u step body rest) h = absurd h
+further_count Here (Branch line set names first has other rest) h = absurd h
+further_count (Behind s) (Branch line set names first has other rest) h = further_count s rest h
+further_count (Inside s) (Branch line set names first has other rest) h = let e = further_count s first h in omega (arith, e)
+further_count (Other s) (Branch line set names first has other rest) h = let e = further_count s other h in omega (arith, e)
+further_count Here (Does line q rest) h = absurd h
+further_count (Behind s) (Does line q rest) h = further_count s rest h
+further_count (Inside s) (Does line q rest) h = absurd h
+further_count (Other s) (Does line q rest) h = absurd h
+
+pub rounds_are_counted : RoundsAreCounted
+rounds_are_counted s n h = record { loops = round_count s n; steps = ap suc (further_count s n h) }

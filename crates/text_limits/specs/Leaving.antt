@@ -1,5 +1,5 @@
 -- What placements leave of another loop as it is.
-use Rattle.std.specs.Prelude.{◌≡◌, ◌⊎◌, false, List}
+use Rattle.std.specs.Prelude.{◌≡◌, ◌⊎◌, suc, ◌+◌, false, List, length}
 use Rattle.affine_ast.specs.declared.name.Name.{Name}
 use Rattle.affine_ast.specs.Names.{same_name}
 use Rattle.affine_ast.specs.Nest.{Nest}
@@ -10,7 +10,7 @@ use Rattle.placement_texts.specs.Spots.{Spot, IsLoop, HasLine, Disjoint, found}
 use Rattle.placement_texts.specs.Template.{Placement, fast_name}
 use Rattle.placement_regions.specs.Sites.{from_spot, way_to}
 use Rattle.staged_plans.specs.Plans.{uses_there}
-use Rattle.plan_laws.specs.Sites.{lined}
+use Rattle.plan_laws.specs.Sites.{path_of, loops_round, lined}
 use Rattle.text_limits.specs.Adding.{accesses_in_loop, condition_count, Describes}
 
 -- a loop with a line stands there, which is counted over the statements with a line
@@ -41,3 +41,11 @@ abbrev pub PlannedAreDescribed : Type 0
 PlannedAreDescribed = (p : Placement) (s : Spot) (n : Nest) (ss : List Step) → IsLoop s n → Every (λ x. IsLoop x.spot n) ss
     → Every (λ x. LeavesAlone p.memref s x.placement x.spot) ss
     → Describes p (loop_count (way_to s n)) (condition_count (way_to s n)) (uses_there n p.memref s) s (staged_all ss (lined n))
+
+-- a loop's path has a step for each loop and condition round it and one for the loop
+pub record CountsRounds (s : Spot) (n : Nest) : Type 0 where
+  pub loops : length (loops_round s n) ≡ loop_count (way_to s n)
+  pub steps : length (path_of s) ≡ suc (loop_count (way_to s n) + condition_count (way_to s n))
+
+abbrev pub RoundsAreCounted : Type 0
+RoundsAreCounted = (s : Spot) (n : Nest) → IsLoop s n → CountsRounds s n

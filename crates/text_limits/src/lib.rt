@@ -7,7 +7,7 @@
 
 ghost use Rattle.text_limits.specs.Adding.{OperandsGrow, PlacementsAddSums, UsesAreAccesses};
 ghost use Rattle.text_limits.specs.Capped.{LimitsAreTold};
-ghost use Rattle.text_limits.specs.Leaving.{PlacementsLeave, PlannedAreDescribed};
+ghost use Rattle.text_limits.specs.Leaving.{PlacementsLeave, PlannedAreDescribed, RoundsAreCounted};
 ghost use Rattle.text_limits.specs.Lessening.{RedirectsAreCounted};
 ghost use Rattle.text_limits.specs.Sums.{LimitsAreSums};
 ghost use Rattle.text_limits.specs.Telling.{PlacementsAreTold};
@@ -51,6 +51,11 @@ pub fn placements_leave()
 /// So a loop of a module is described in each text of a plan whose placements leave it alone.
 pub fn planned_are_described()
     ensures { PlannedAreDescribed }
+{}
+
+/// The steps of its path count the loops and conditions round it.
+pub fn rounds_are_counted()
+    ensures { RoundsAreCounted }
 {}
 
 /// The limits are told alike of sums that stop at the greatest number of 64 bits.
