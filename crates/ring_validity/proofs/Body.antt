@@ -75,7 +75,7 @@ bound_uses_in s (bound.Int z) h = nil_in s
 bound_uses_in s (bound.Value n) h = cons_in s n [] h (nil_in s)
 bound_uses_in s (bound.Map at) h = h
 
-there_or_not : (o : Option Binding) → is_some o ≡ true → o ≡ None → ⊥
+pub there_or_not : (o : Option Binding) → is_some o ≡ true → o ≡ None → ⊥
 there_or_not (Some b) h k = cc
 there_or_not None h k = cc
 

@@ -5,3 +5,6 @@ pub mod Places
 pub mod Body
 pub mod Released
 pub mod Ringed
+pub mod Forms
+pub mod Openings
+pub mod Several

@@ -21,7 +21,7 @@ use Rattle.placement_texts.proofs.ScopedAccess.{pure-Const, pure-Dim, pure-Sub}
 use Rattle.ring_plans.specs.Rings.{ring_place, at_place}
 
 -- ---- forms
-leaves-Add : (d s : ℕ) (a b : Expr) → has_leaves_below d s (Add a b) ≡ (has_leaves_below d s a && has_leaves_below d s b)
+pub leaves-Add : (d s : ℕ) (a b : Expr) → has_leaves_below d s (Add a b) ≡ (has_leaves_below d s a && has_leaves_below d s b)
 unfolding has_leaves_below
 leaves-Add d s a b = ap (fold-Expr Bool (leaves_step d s)) (sym (rolls-Add a b)) ∙ fold-roll-Expr Bool (leaves_step d s) (Expr-F.Add a b)
 
@@ -33,7 +33,7 @@ leaves-Mod : (d s : ℕ) (a b : Expr) → has_leaves_below d s (Mod a b) ≡ (ha
 unfolding has_leaves_below
 leaves-Mod d s a b = ap (fold-Expr Bool (leaves_step d s)) (sym (rolls-Mod a b)) ∙ fold-roll-Expr Bool (leaves_step d s) (Expr-F.Mod a b)
 
-pure-Add : (a b : Expr) → is_pure (Add a b) ≡ (is_pure a && is_pure b)
+pub pure-Add : (a b : Expr) → is_pure (Add a b) ≡ (is_pure a && is_pure b)
 unfolding is_pure
 pure-Add a b = ap (λ e. (fold-Expr Purity purity_step e).pure) (sym (rolls-Add a b)) ∙ ap (λ (p : Purity). p.pure) (fold-roll-Expr Purity purity_step (Expr-F.Add a b))
 

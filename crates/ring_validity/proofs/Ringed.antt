@@ -36,7 +36,7 @@ one_in : (s : Scope) (n : Name) → is_in s n ≡ true → are_in s (n ∷ []) �
 unfolding are_in
 one_in s n h = λ i. h i && true
 
-no_both : (p : Placement) (ns ms : List Name) → NoMemrefs p (ns ++ ms) → NoMemrefs p ns × NoMemrefs p ms
+pub no_both : (p : Placement) (ns ms : List Name) → NoMemrefs p (ns ++ ms) → NoMemrefs p ns × NoMemrefs p ms
 no_both p [] ms h = (tt, h)
 no_both p (n ∷ ns) ms h = let r = no_both p ns ms h.1 in ((h.0, r.0), r.1)
 

@@ -1,4 +1,5 @@
 pub mod Wells
 pub mod Bodies
+pub mod Openings
 pub mod Law
 pub mod BodyLaw

@@ -4,7 +4,7 @@
 //! bounds of its loop.
 #![tactic(auto)]
 
-ghost use Rattle.ring_validity.specs.BodyLaw.{BodyStaysWell};
+ghost use Rattle.ring_validity.specs.BodyLaw.{BodiesStayWell, BodyStaysWell};
 ghost use Rattle.ring_validity.specs.Law.{PassedIsWell, WellIsValid};
 
 /// A text that breaks no rule of validity is well-formed.
@@ -21,4 +21,9 @@ pub fn well_is_valid()
 /// and its constants stand round the loop.
 pub fn body_stays_well()
     ensures { BodyStaysWell }
+{}
+
+/// So is the body with a ring for each of several placements.
+pub fn bodies_stay_well()
+    ensures { BodiesStayWell }
 {}
