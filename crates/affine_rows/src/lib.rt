@@ -20,6 +20,8 @@ mod operations;
 #[cfg(test)]
 mod order_policies;
 #[cfg(test)]
+mod places;
+#[cfg(test)]
 mod products;
 #[cfg(test)]
 mod prompt_runs;

@@ -14,7 +14,7 @@ use std::alloc::{AllocError, Global};
 use std::test::Fail;
 
 /// Whether a path names a loop.
-fn names_loop(alloc: Global, module: &Verified, at: &Path) -> Result<bool, AllocError>
+pub(crate) fn names_loop(alloc: Global, module: &Verified, at: &Path) -> Result<bool, AllocError>
     ensures { IfOk result (λ named. named ≡ true → NamesLoop (at_path (nest «module».now.inner.body) at.now.steps)) }
 {
     let module = module.module();
