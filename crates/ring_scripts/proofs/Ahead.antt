@@ -31,7 +31,7 @@ abbrev starts_from : ℕ → List Placement → ℕ → List Step
 starts_from i [] j = []
 starts_from i (p ∷ ps) j = one_start i p j ++ starts_from (suc i) ps j
 
-nothing_behind : {A : Type 0} (xs : List A) → xs ++ [] ≡ xs
+pub nothing_behind : {A : Type 0} (xs : List A) → xs ++ [] ≡ xs
 nothing_behind [] = refl
 nothing_behind (x ∷ xs) = ap (λ l. x ∷ l) (nothing_behind xs)
 

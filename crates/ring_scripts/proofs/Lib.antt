@@ -5,3 +5,4 @@ pub mod Starts
 pub mod Texts
 pub mod Calm
 pub mod Ahead
+pub mod Turns

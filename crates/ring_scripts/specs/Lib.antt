@@ -3,3 +3,4 @@ pub mod Starts
 pub mod Texts
 pub mod Calm
 pub mod Ahead
+pub mod Turns

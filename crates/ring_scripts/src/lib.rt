@@ -9,6 +9,7 @@ ghost use Rattle.ring_scripts.specs.Calm.{ElsewhereIsCalm, NoClashIsCalm};
 ghost use Rattle.ring_scripts.specs.Readings.{AccessInRing, LoopsAreCut, RingPlaceIs, TagInRing};
 ghost use Rattle.ring_scripts.specs.Starts.{BoxIsLater, LeavesInRing, StartsAhead, WaitsInRing};
 ghost use Rattle.ring_scripts.specs.Texts.{ClosesInRing, OpensInRing, WorkInRing};
+ghost use Rattle.ring_scripts.specs.Turns.{ClearIsCalm, RingTextAgrees, TurnsMakeARing};
 
 /// An access with a place in the ring goes to that of the turn so much later.
 pub fn ring_place_is()
@@ -78,4 +79,19 @@ pub fn elsewhere_is_calm()
 /// The text of a turn's starts does what the second run does in the steps of a ring's starts.
 pub fn starts_are_steps()
     ensures { StartsAreSteps }
+{}
+
+/// Steps avoid a transfer where what the second run does in them keeps clear of it.
+pub fn clear_is_calm()
+    ensures { ClearIsCalm }
+{}
+
+/// Turns that go each by itself, and keep clear of what else is under way, make a ring with their starts ahead.
+pub fn turns_make_a_ring()
+    ensures { TurnsMakeARing }
+{}
+
+/// The loop of single placements and its loops with rings end alike, where the steps of a turn are what the two texts do in it.
+pub fn ring_text_agrees()
+    ensures { RingTextAgrees }
 {}
