@@ -1,0 +1,3 @@
+pub mod Owned
+pub mod Renamed
+pub mod Twins

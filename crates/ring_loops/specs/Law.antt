@@ -1,0 +1,36 @@
+-- What is proved of the loops of a doubled loop.
+use Rattle.std.specs.Prelude.{◌≡◌, Bool, true, false}
+use Rattle.std.specs.List.{list_any}
+use Rattle.affine_ast.specs.declared.name.Name.{Name}
+use Rattle.affine_ast.specs.Names.{same_name}
+use Rattle.affine_ast.specs.Nest.{Nest}
+use Rattle.affine_ast.specs.Rules.{is_in, is_new}
+use Rattle.affine_ast.specs.Scope.{Scope}
+use Rattle.numbered_names.specs.Numbers.{defined, made_of}
+use Rattle.placement_texts.specs.Own.{OwnNames}
+use Rattle.placement_texts.specs.Renamed.{named, KeepsApart}
+use Rattle.ring_plans.specs.Rings.{twin, twin_text}
+use Rattle.ring_validity.specs.Wells.{WellFormed}
+
+-- of a text whose names, in scope or defined, are these: under new names, that stand for what the old ones do and are as much released
+abbrev pub RenamedStaysWell : Type 0
+RenamedStaysWell = (f : Name → Name) (own : Name → Bool) (n : Nest) (s t : Scope) (d e : Name → Bool) → KeepsApart f own → ((m : Name) → is_in s m ≡ true → own m ≡ true) → OwnNames own (defined n)
+    → ((m : Name) → own m ≡ true → t (f m) ≡ s m) → ((m : Name) → own m ≡ true → e (f m) ≡ d m) → WellFormed n s d → WellFormed (named f n) t e
+
+-- where other names are in scope too
+abbrev pub MoreStaysWell : Type 0
+MoreStaysWell = (own : Name → Bool) (n : Nest) (s t : Scope) (d e : Name → Bool) → ((m : Name) → is_in s m ≡ true → own m ≡ true) → OwnNames own (defined n)
+    → ((m : Name) → own m ≡ true → t m ≡ s m) → ((m : Name) → own m ≡ true → e m ≡ d m) → WellFormed n s d → WellFormed n t e
+
+-- ---- twins
+-- the made names that a text defines have twins that are new, in scope and in the text
+pub record TwinsAreNew (n : Nest) (s : Scope) : Type 0 where
+  pub scope : (r : Name) → list_any (same_name r) (made_of (defined n)) ≡ true → is_new s (twin r) ≡ true
+  pub text : (r : Name) → list_any (same_name r) (made_of (defined n)) ≡ true → list_any (same_name (twin r)) (defined n) ≡ false
+
+-- only what is in scope has been released
+abbrev pub ReleasedAreKnown : Scope → (Name → Bool) → Type 0
+ReleasedAreKnown s d = (m : Name) → is_in s m ≡ false → d m ≡ false
+
+abbrev pub EpilogueStaysWell : Type 0
+EpilogueStaysWell = (n : Nest) (s : Scope) (d : Name → Bool) → TwinsAreNew n s → ReleasedAreKnown s d → WellFormed n s d → WellFormed (twin_text n) s d
