@@ -1,0 +1,3 @@
+pub mod Backward
+pub mod Law
+pub mod Widening
