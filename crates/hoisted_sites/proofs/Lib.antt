@@ -1,0 +1,6 @@
+mod Accessing
+mod Counts
+mod Counted
+mod Arguments
+mod Stands
+mod Rounds
