@@ -1,3 +1,4 @@
 pub mod Owned
 pub mod Renamed
 pub mod Twins
+pub mod SplitBounds

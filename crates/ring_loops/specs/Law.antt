@@ -1,15 +1,19 @@
 -- What is proved of the loops of a doubled loop.
-use Rattle.std.specs.Prelude.{◌≡◌, Bool, true, false}
+use Rattle.std.specs.Prelude.{◌≡◌, ℕ, ℤ, pos, ◌<ℤ◌, Bool, true, false}
 use Rattle.std.specs.List.{list_any}
 use Rattle.affine_ast.specs.declared.name.Name.{Name}
+use Rattle.affine_ast.specs.declared.types.Bound.{Bound}
 use Rattle.affine_ast.specs.Names.{same_name}
 use Rattle.affine_ast.specs.Nest.{Nest}
 use Rattle.affine_ast.specs.Rules.{is_in, is_new}
 use Rattle.affine_ast.specs.Scope.{Scope}
+use Rattle.loop_forms.specs.declared.parts.Parts.{Parts}
+use Rattle.loop_forms.specs.Split.{split_of}
 use Rattle.numbered_names.specs.Numbers.{defined, made_of}
 use Rattle.placement_texts.specs.Own.{OwnNames}
 use Rattle.placement_texts.specs.Renamed.{named, KeepsApart}
 use Rattle.ring_plans.specs.Rings.{twin, twin_text}
+use Rattle.ring_validity.specs.Openings.{BoundWell}
 use Rattle.ring_validity.specs.Wells.{WellFormed}
 
 -- of a text whose names, in scope or defined, are these: under new names, that stand for what the old ones do and are as much released
@@ -34,3 +38,16 @@ ReleasedAreKnown s d = (m : Name) → is_in s m ≡ false → d m ≡ false
 
 abbrev pub EpilogueStaysWell : Type 0
 EpilogueStaysWell = (n : Nest) (s : Scope) (d : Name → Bool) → TwinsAreNew n s → ReleasedAreKnown s d → WellFormed n s d → WellFormed (twin_text n) s d
+
+-- ---- the three loops of a split
+-- the bounds of the three loops can stand
+pub record PartsWell (s : Scope) (parts : Parts) : Type 0 where
+  pub prologue_from : BoundWell s parts.prologue.0
+  pub prologue_to : BoundWell s parts.prologue.1
+  pub main_from : BoundWell s parts.main.0
+  pub main_to : BoundWell s parts.main.1
+  pub epilogue_from : BoundWell s parts.epilogue.0
+  pub epilogue_to : BoundWell s parts.epilogue.1
+
+abbrev pub SplitStaysWell : Type 0
+SplitStaysWell = (lower upper : Bound) (step : ℤ) (buffers : ℕ) (s : Scope) → pos 0 <ℤ step → BoundWell s lower → BoundWell s upper → PartsWell s (split_of lower upper step buffers)

@@ -3,7 +3,7 @@
 //! The same statements stand in the main loop and, under names of their own, in the epilogue; starts ahead stand in prologue and main loop.
 #![tactic(auto)]
 
-ghost use Rattle.ring_loops.specs.Law.{EpilogueStaysWell, MoreStaysWell, RenamedStaysWell};
+ghost use Rattle.ring_loops.specs.Law.{EpilogueStaysWell, MoreStaysWell, RenamedStaysWell, SplitStaysWell};
 
 /// A well-formed text stays so under other names, one for one.
 pub fn renamed_stays_well()
@@ -18,4 +18,9 @@ pub fn more_stays_well()
 /// The body of the epilogue, with twins for the made names that it defines, is well-formed where the main loop's is.
 pub fn epilogue_stays_well()
     ensures { EpilogueStaysWell }
+{}
+
+/// The bounds of prologue, main loop and epilogue can stand where those of the loop can.
+pub fn split_stays_well()
+    ensures { SplitStaysWell }
 {}

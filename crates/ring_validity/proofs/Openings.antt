@@ -119,6 +119,39 @@ module _ (p : Placement) where
           put-other (with_constant (stride_name p.name) two.0 s1) (chunk_name p.name) _ (count_name p.name) (can.apart 4 2) ∙ put-other s1 (stride_name p.name) _ (count_name p.name) (can.apart 3 2)
           ∙ put-same (λ n. None) (count_name p.name) _ (count_name p.name) (same_name-refl (count_name p.name))
 
+-- ---- a bound as a map
+pub map_uses : (s : Scope) (l : Bound) → BoundWell s l → are_in s (as_map l).operands ≡ true
+unfolding are_in
+map_uses s (bound.Int z) w = refl
+map_uses s (bound.Value n) w = λ i. w.uses i && true
+map_uses s (bound.Map at) w = w.uses
+
+pub map_stands : (s : Scope) (l : Bound) → BoundWell s l → operands_stand s (as_map l).map.dims (as_map l).operands ≡ true
+unfolding operands_stand
+map_stands s (bound.Int z) w = refl
+map_stands s (bound.Value n) w = λ i. (w.stand i && true) && true
+map_stands s (bound.Map at) w = w.stand
+
+pub fitted : (s : Scope) (l : Bound) → BoundWell s l → map_fits (as_map l) ≡ true
+unfolding map_fits
+fitted s (bound.Int z) w = λ i. leaves-Const 0 0 z i && true
+fitted s (bound.Value n) w = λ i. (leaves-Dim 1 0 0) i && true
+fitted s (bound.Map at) w = (and_parts (map_fits at) (has_result at) w.fits).0
+
+pub map_pure : (s : Scope) (l : Bound) → BoundWell s l → access_pure (as_map l) ≡ true
+unfolding access_pure
+map_pure s (bound.Int z) w = λ i. pure-Const z i && true
+map_pure s (bound.Value n) w = λ i. pure-Dim 0 i && true
+map_pure s (bound.Map at) w = w.pure
+
+pub sole_leaves : (d n : ℕ) (es : List Expr) → list_all (has_leaves_below d n) es ≡ true → has_leaves_below d n (sole es) ≡ true
+sole_leaves d n [] h = leaves-Const d n (pos 0)
+sole_leaves d n (e ∷ es) h = (and_parts (has_leaves_below d n e) (list_all (has_leaves_below d n) es) h).0
+
+pub sole_pure : (es : List Expr) → list_all is_pure es ≡ true → is_pure (sole es) ≡ true
+sole_pure [] h = pure-Const (pos 0)
+sole_pure (e ∷ es) h = (and_parts (is_pure e) (list_all is_pure es) h).0
+
 module _ (buffers : ℕ) (v : Name) (lower upper : Bound) (step : ℤ) where
   module _ (p : Placement) where
     pub scope_other : (s : Scope) (n : Name) → is_special p n ≡ false → ring_scope buffers v lower upper step p s n ≡ s n
@@ -154,38 +187,6 @@ module _ (buffers : ℕ) (v : Name) (lower upper : Bound) (step : ℤ) where
         }
 
   -- ---- the condition of a late wait
-  pub map_uses : (s : Scope) (l : Bound) → BoundWell s l → are_in s (as_map l).operands ≡ true
-  unfolding are_in
-  map_uses s (bound.Int z) w = refl
-  map_uses s (bound.Value n) w = λ i. w.uses i && true
-  map_uses s (bound.Map at) w = w.uses
-
-  map_stands : (s : Scope) (l : Bound) → BoundWell s l → operands_stand s (as_map l).map.dims (as_map l).operands ≡ true
-  unfolding operands_stand
-  map_stands s (bound.Int z) w = refl
-  map_stands s (bound.Value n) w = λ i. (w.stand i && true) && true
-  map_stands s (bound.Map at) w = w.stand
-
-  fitted : (s : Scope) (l : Bound) → BoundWell s l → map_fits (as_map l) ≡ true
-  unfolding map_fits
-  fitted s (bound.Int z) w = λ i. leaves-Const 0 0 z i && true
-  fitted s (bound.Value n) w = λ i. (leaves-Dim 1 0 0) i && true
-  fitted s (bound.Map at) w = (and_parts (map_fits at) (has_result at) w.fits).0
-
-  map_pure : (s : Scope) (l : Bound) → BoundWell s l → access_pure (as_map l) ≡ true
-  unfolding access_pure
-  map_pure s (bound.Int z) w = λ i. pure-Const z i && true
-  map_pure s (bound.Value n) w = λ i. pure-Dim 0 i && true
-  map_pure s (bound.Map at) w = w.pure
-
-  sole_leaves : (d n : ℕ) (es : List Expr) → list_all (has_leaves_below d n) es ≡ true → has_leaves_below d n (sole es) ≡ true
-  sole_leaves d n [] h = leaves-Const d n (pos 0)
-  sole_leaves d n (e ∷ es) h = (and_parts (has_leaves_below d n e) (list_all (has_leaves_below d n) es) h).0
-
-  sole_pure : (es : List Expr) → list_all is_pure es ≡ true → is_pure (sole es) ≡ true
-  sole_pure [] h = pure-Const (pos 0)
-  sole_pure (e ∷ es) h = (and_parts (is_pure e) (list_all is_pure es) h).0
-
   one_more : (k : ℕ) → 1 + k ≡ suc k
   one_more k = omega arith
 

@@ -25,7 +25,7 @@ pub leaves-Add : (d s : ℕ) (a b : Expr) → has_leaves_below d s (Add a b) ≡
 unfolding has_leaves_below
 leaves-Add d s a b = ap (fold-Expr Bool (leaves_step d s)) (sym (rolls-Add a b)) ∙ fold-roll-Expr Bool (leaves_step d s) (Expr-F.Add a b)
 
-leaves-FloorDiv : (d s : ℕ) (a b : Expr) → has_leaves_below d s (FloorDiv a b) ≡ (has_leaves_below d s a && has_leaves_below d s b)
+pub leaves-FloorDiv : (d s : ℕ) (a b : Expr) → has_leaves_below d s (FloorDiv a b) ≡ (has_leaves_below d s a && has_leaves_below d s b)
 unfolding has_leaves_below
 leaves-FloorDiv d s a b = ap (fold-Expr Bool (leaves_step d s)) (sym (rolls-FloorDiv a b)) ∙ fold-roll-Expr Bool (leaves_step d s) (Expr-F.FloorDiv a b)
 
@@ -37,11 +37,11 @@ pub pure-Add : (a b : Expr) → is_pure (Add a b) ≡ (is_pure a && is_pure b)
 unfolding is_pure
 pure-Add a b = ap (λ e. (fold-Expr Purity purity_step e).pure) (sym (rolls-Add a b)) ∙ ap (λ (p : Purity). p.pure) (fold-roll-Expr Purity purity_step (Expr-F.Add a b))
 
-positive_number : (z : ℤ) → pos 0 <ℤ z → is_positive (purity (Const z)).fixed ≡ true
+pub positive_number : (z : ℤ) → pos 0 <ℤ z → is_positive (purity (Const z)).fixed ≡ true
 positive_number z h =
     ap (λ e. is_positive (fold-Expr Purity purity_step e).fixed) (sym (rolls-Const z)) ∙ ap (λ (p : Purity). is_positive p.fixed) (fold-roll-Expr Purity purity_step (Expr-F.Const z)) ∙ grind (arith, ints, h)
 
-pure_floor : (a : Expr) (z : ℤ) → pos 0 <ℤ z → is_pure a ≡ true → is_pure (FloorDiv a (Const z)) ≡ true
+pub pure_floor : (a : Expr) (z : ℤ) → pos 0 <ℤ z → is_pure a ≡ true → is_pure (FloorDiv a (Const z)) ≡ true
 unfolding is_pure
 pure_floor a z l h =
     ap (λ e. (fold-Expr Purity purity_step e).pure) (sym (rolls-FloorDiv a (Const z))) ∙ ap (λ (p : Purity). p.pure) (fold-roll-Expr Purity purity_step (Expr-F.FloorDiv a (Const z)))

@@ -153,7 +153,7 @@ module _ (buffers : ℕ) (v : Name) (lower upper : Bound) (step : ℤ) where
   templates_stay : (p : Placement) (qs : List Placement) (s : Scope) (d : Name → Bool) (n : Nest) → BoundWell s lower → NoneTakenBy p qs → CanHaveRings s d v qs → HoldsTemplates qs n → HoldsTemplates qs (all_in_ring buffers v lower upper step p n)
   templates_stay p [] s d n w none can h = tt
   templates_stay p (q ∷ qs) s d n w none can h = (
-    template_stays buffers v lower upper step p q (template_scope q) none.0 can.0.turn (no_uses q s can.0.new_names (as_map lower).operands (map_uses buffers v lower upper step s lower w)) n h.0,
+    template_stays buffers v lower upper step p q (template_scope q) none.0 can.0.turn (no_uses q s can.0.new_names (as_map lower).operands (map_uses s lower w)) n h.0,
     templates_stay p qs s d n w none.1 can.2 h.1,
   )
 
