@@ -6,3 +6,4 @@ pub mod Texts
 pub mod Calm
 pub mod Ahead
 pub mod Turns
+pub mod Outward

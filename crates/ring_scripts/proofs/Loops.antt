@@ -47,20 +47,20 @@ module _ (e : Env) (lower upper : Bound) (s lead : ℕ) (hl : HasOneResult lower
       ∙ (λ i. take (count_is i - (suc lead - 1)) (all_turns a b s positive i))
       ∙ sym (all_but_last a b s (suc lead) positive two)
 
-  epilogue_is : turns_of e (split_of lower upper (pos s) (suc lead)).epilogue (pos s) ≡ turns (epilogue_begin a b (pos s) (suc lead)) b (pos s)
+  pub epilogue_is : turns_of e (split_of lower upper (pos s) (suc lead)).epilogue (pos s) ≡ turns (epilogue_begin a b (pos s) (suc lead)) b (pos s)
   epilogue_is =
       (split_cuts e lower upper (pos s) (suc lead) hl hu above two).2
       ∙ (λ i. drop (count_is i - (suc lead - 1)) (all_turns a b s positive i))
       ∙ sym (last_ones a b s (suc lead) positive two)
 
 -- bounds are the same behind a region
-lower_behind : (n : Nest) (e : Env) (l : Bound) → lower_of (behind n e) l ≡ lower_of e l
+pub lower_behind : (n : Nest) (e : Env) (l : Bound) → lower_of (behind n e) l ≡ lower_of e l
 unfolding lower_of results_of
 lower_behind n e (bound.Int z) = refl
 lower_behind n e (bound.Value v) = refl
 lower_behind n e (bound.Map at) = refl
 
-upper_behind : (n : Nest) (e : Env) (l : Bound) → upper_of (behind n e) l ≡ upper_of e l
+pub upper_behind : (n : Nest) (e : Env) (l : Bound) → upper_of (behind n e) l ≡ upper_of e l
 unfolding upper_of results_of
 upper_behind n e (bound.Int z) = refl
 upper_behind n e (bound.Value v) = refl

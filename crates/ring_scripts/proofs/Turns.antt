@@ -103,7 +103,7 @@ turns_make_a_ring large ring inward outward lead count base turn number first_ta
 
 -- ---- the text
 -- the first run does nothing where the second starts ahead
-still : (ring : ℕ → ℕ → Transfer) (inward : ℕ → Bool) (pads : ℕ → ℕ → ℕ) (m j : ℕ) → first_list ring (starts_of inward pads m j) ≡ []
+pub still : (ring : ℕ → ℕ → Transfer) (inward : ℕ → Bool) (pads : ℕ → ℕ → ℕ) (m j : ℕ) → first_list ring (starts_of inward pads m j) ≡ []
 still ring inward pads zero j = refl
 still ring inward pads (suc m) j =
     first-append ring (starts_of inward pads m j) (if inward m then knowns (pads m j) ++ Ahead m j ∷ [] else [])

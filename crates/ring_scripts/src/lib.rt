@@ -6,6 +6,7 @@
 
 ghost use Rattle.ring_scripts.specs.Ahead.{StartsAreSteps};
 ghost use Rattle.ring_scripts.specs.Calm.{ElsewhereIsCalm, NoClashIsCalm};
+ghost use Rattle.ring_scripts.specs.Outward.{LastWaitsAreSteps, OutwardTextAgrees};
 ghost use Rattle.ring_scripts.specs.Readings.{AccessInRing, LoopsAreCut, RingPlaceIs, TagInRing};
 ghost use Rattle.ring_scripts.specs.Starts.{BoxIsLater, LeavesInRing, StartsAhead, WaitsInRing};
 ghost use Rattle.ring_scripts.specs.Texts.{ClosesInRing, OpensInRing, WorkInRing};
@@ -94,4 +95,14 @@ pub fn turns_make_a_ring()
 /// The loop of single placements and its loops with rings end alike, where the steps of a turn are what the two texts do in it.
 pub fn ring_text_agrees()
     ensures { RingTextAgrees }
+{}
+
+/// The loop of single placements and the loop with rings end alike where no placement is inward.
+pub fn outward_text_agrees()
+    ensures { OutwardTextAgrees }
+{}
+
+/// Behind the loops the text waits for the outward transfers of the last turns, and for no others.
+pub fn last_waits_are_steps()
+    ensures { LastWaitsAreSteps }
 {}
