@@ -7,3 +7,4 @@ pub mod Calm
 pub mod Ahead
 pub mod Turns
 pub mod Outward
+pub mod Twins

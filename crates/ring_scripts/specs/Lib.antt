@@ -5,3 +5,4 @@ pub mod Calm
 pub mod Ahead
 pub mod Turns
 pub mod Outward
+pub mod Twins

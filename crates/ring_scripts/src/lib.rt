@@ -11,6 +11,7 @@ ghost use Rattle.ring_scripts.specs.Readings.{AccessInRing, LoopsAreCut, RingPla
 ghost use Rattle.ring_scripts.specs.Starts.{BoxIsLater, LeavesInRing, StartsAhead, WaitsInRing};
 ghost use Rattle.ring_scripts.specs.Texts.{ClosesInRing, OpensInRing, WorkInRing};
 ghost use Rattle.ring_scripts.specs.Turns.{ClearIsCalm, RingTextAgrees, TurnsMakeARing};
+ghost use Rattle.ring_scripts.specs.Twins.{TwinsDoTheSame};
 
 /// An access with a place in the ring goes to that of the turn so much later.
 pub fn ring_place_is()
@@ -105,4 +106,9 @@ pub fn outward_text_agrees()
 /// Behind the loops the text waits for the outward transfers of the last turns, and for no others.
 pub fn last_waits_are_steps()
     ensures { LastWaitsAreSteps }
+{}
+
+/// The epilogue's body, under names that stand for what the main loop's do, has the actions of the main loop's.
+pub fn twins_do_the_same()
+    ensures { TwinsDoTheSame }
 {}
