@@ -1,5 +1,5 @@
 pub mod Texts
 pub mod Trees
-mod Ways
-mod Plans
+pub mod Ways
+pub mod Plans
 pub mod Law

@@ -39,7 +39,7 @@ from_lined (spots.Other s) (Loop line v l u step body rest) = refl
 from_lined (spots.Other s) (Branch line set names first has other rest) = from_lined s other
 from_lined (spots.Other s) (Does line q rest) = refl
 
-way_lined : (s : Spot) (n : Nest) → way_to s (lined n) ≡ way (way_to s n)
+pub way_lined : (s : Spot) (n : Nest) → way_to s (lined n) ≡ way (way_to s n)
 way_lined Here n = refl
 way_lined (Behind s) Nothing = refl
 way_lined (Behind s) (Loop line v l u step body rest) = ap (λ w. ways.Past (lined body) ∷ w) (way_lined s rest)
@@ -60,19 +60,19 @@ uses_lined m hs (Loop line v l u step body rest) = ap (ways.uses m (lined body))
 uses_lined m hs (Branch line set names first has other rest) = refl
 uses_lined m hs (Does line q rest) = refl
 
-uses_there_lined : (n : Nest) (m : Name) (s : Spot) → uses_there (lined n) m s ≡ uses_with (uses_there n m s)
+pub uses_there_lined : (n : Nest) (m : Name) (s : Spot) → uses_there (lined n) m s ≡ uses_with (uses_there n m s)
 uses_there_lined n m s = (λ i. loop_uses m (way_lined s n i) (from_lined s n i)) ∙ uses_lined m (way_to s n) (from_spot s n)
 
-region_lined : (args : List Arg) (n : Nest) (m : Name) (s : Spot) (sizes : List ℕ) (dma : Bool) → region_there args (lined n) m s sizes dma ≡ region_there args n m s sizes dma
+pub region_lined : (args : List Arg) (n : Nest) (m : Name) (s : Spot) (sizes : List ℕ) (dma : Bool) → region_there args (lined n) m s sizes dma ≡ region_there args n m s sizes dma
 region_lined args n m s sizes dma = (λ i. region_of args (way_lined s n i) (uses_there_lined n m s i) sizes dma) ∙ region_with args (way_to s n) (uses_there n m s) sizes dma
 
-covered_lined : (args : List Arg) (n : Nest) (m : Name) (s : Spot) (ds : List region.Dimension) → is_covered args (lined n) m s ds ≡ is_covered args n m s ds
+pub covered_lined : (args : List Arg) (n : Nest) (m : Name) (s : Spot) (ds : List region.Dimension) → is_covered args (lined n) m s ds ≡ is_covered args n m s ds
 covered_lined args n m s ds =
     (λ i. covers args (way_lined s n i) (uses_there_lined n m s i) (symbol_count args + loop_count (way_lined s n i)) ds)
     ∙ (λ i. covers args (way (way_to s n)) (uses_with (uses_there n m s)) (symbol_count args + way_loops (way_to s n) i) ds)
     ∙ covers_with args (way_to s n) (uses_there n m s) (symbol_count args + loop_count (way_to s n)) ds
 
-stores_lined : (us : List Use) → has_store (uses_with us) ≡ has_store us
+pub stores_lined : (us : List Use) → has_store (uses_with us) ≡ has_store us
 stores_lined [] = refl
 stores_lined (Affine hs stores at ∷ us) = ap (λ b. stores || b) (stores_lined us)
 stores_lined (Other ∷ us) = stores_lined us
