@@ -1,1 +1,7 @@
 pub mod Walks
+pub mod Standing
+pub mod Candidates
+pub mod Settling
+pub mod Listed
+pub mod Planned
+pub mod Blocked

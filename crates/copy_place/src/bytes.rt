@@ -2,28 +2,17 @@
 ghost use Rattle.std.specs.Prelude.{◌≡◌, ℕ, ◌+◌, ◌-◌, ◌^◌, ◌≤◌, ◌<◌, min, max};
 ghost use Rattle.affine_ast.specs.Nest.{Nest, Nothing, nest, put_what};
 ghost use Rattle.affine_ast.specs.Sizes.{product};
-ghost use Rattle.direct_meaning.specs.Static.{element_bytes};
 ghost use Rattle.peak_laws.specs.Peak.{fast_bytes, peak_of, bytes_in, peak};
 ghost use Rattle.copy_place.specs.Moves.{Moves};
 
-use affine_ast::{Element, MemrefType, Stmt, Verified, What};
+use affine_ast::{MemrefType, Stmt, Verified, What};
+use plan_tests::element_bytes;
 
 /// The bytes of fast memory that are live at a place of a text, and the most that were on the way there.
 #[derive(Clone, Copy)]
 pub struct Live {
     pub now: u64,
     pub most: u64,
-}
-
-fn element_bytes(element: Element) -> u64
-    ensures { result ≡ element_bytes element }
-{
-    match element {
-        Element::I8 => 1,
-        Element::I16 => 2,
-        Element::I32 => 4,
-        Element::I64 => 8,
-    }
 }
 
 /// The elements of a memref of these sizes, and the greatest number where they are more.

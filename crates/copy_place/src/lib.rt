@@ -1,8 +1,13 @@
-//! Where copies stand: the peak of a module's text.
+//! Where copies stand: the plan of a module, and the peak of its text.
 //!
-//! The peak is that of `peak_laws`, `specs/Peak`. The crate stands on the trees of `affine_ast`.
+//! The plan is that of `plan_laws`, `specs/Plan`, and the peak that of `peak_laws`, `specs/Peak`. The sites of a block's memrefs come from
+//! `hoisted_sites`, the tests of a placement from `plan_tests`.
 #![tactic(auto)]
 
+mod blocks;
 mod bytes;
+mod candidate;
+mod settle;
 
+pub use blocks::plan;
 pub use bytes::peak;
