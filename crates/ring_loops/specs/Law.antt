@@ -1,5 +1,5 @@
 -- What is proved of the loops of a doubled loop.
-use Rattle.std.specs.Prelude.{◌≡◌, ℕ, ℤ, pos, ◌<ℤ◌, Bool, true, false}
+use Rattle.std.specs.Prelude.{◌≡◌, ℕ, ◌≤◌, ℤ, pos, ◌<ℤ◌, Bool, true, false, List}
 use Rattle.std.specs.List.{list_any}
 use Rattle.affine_ast.specs.declared.name.Name.{Name}
 use Rattle.affine_ast.specs.declared.types.Bound.{Bound}
@@ -12,7 +12,9 @@ use Rattle.loop_forms.specs.Split.{split_of}
 use Rattle.numbered_names.specs.Numbers.{defined, made_of}
 use Rattle.placement_texts.specs.Own.{OwnNames}
 use Rattle.placement_texts.specs.Renamed.{named, KeepsApart}
-use Rattle.ring_plans.specs.Rings.{twin, twin_text}
+use Rattle.placement_texts.specs.Template.{Placement}
+use Rattle.ring_plans.specs.Rings.{started, twin, twin_text}
+use Rattle.ring_loops.specs.Starts.{started_scope, CanStarts, IsNoPlace}
 use Rattle.ring_validity.specs.Openings.{BoundWell}
 use Rattle.ring_validity.specs.Wells.{WellFormed}
 
@@ -51,3 +53,13 @@ pub record PartsWell (s : Scope) (parts : Parts) : Type 0 where
 
 abbrev pub SplitStaysWell : Type 0
 SplitStaysWell = (lower upper : Bound) (step : ℤ) (buffers : ℕ) (s : Scope) → pos 0 <ℤ step → BoundWell s lower → BoundWell s upper → PartsWell s (split_of lower upper step buffers)
+
+-- ---- starts ahead
+-- they are well-formed where what they need is in scope, and what follows is where their places are in scope too; nothing else changes
+pub record StartsWell (buffers : ℕ) (v : Name) (lower upper : Bound) (step : ℤ) (f : Name → Name) (z : ℤ) (ps : List Placement) (s : Scope) (d : Name → Bool) : Type 0 where
+  pub text : (rest : Nest) → WellFormed rest (started_scope buffers v lower upper step f z ps s) d → WellFormed (started buffers v lower upper step f z ps rest) s d
+  pub others : (n : Name) → IsNoPlace buffers v lower upper step f z n ps → started_scope buffers v lower upper step f z ps s n ≡ s n
+
+abbrev pub StartsStayWell : Type 0
+StartsStayWell = (buffers : ℕ) (v : Name) (lower upper : Bound) (step : ℤ) (f : Name → Name) (z : ℤ) (ps : List Placement) (s : Scope) (d : Name → Bool) → 1 ≤ buffers → pos 0 <ℤ step
+    → CanStarts buffers v lower upper step f z s d ps → StartsWell buffers v lower upper step f z ps s d

@@ -3,7 +3,7 @@
 //! The same statements stand in the main loop and, under names of their own, in the epilogue; starts ahead stand in prologue and main loop.
 #![tactic(auto)]
 
-ghost use Rattle.ring_loops.specs.Law.{EpilogueStaysWell, MoreStaysWell, RenamedStaysWell, SplitStaysWell};
+ghost use Rattle.ring_loops.specs.Law.{EpilogueStaysWell, MoreStaysWell, RenamedStaysWell, SplitStaysWell, StartsStayWell};
 
 /// A well-formed text stays so under other names, one for one.
 pub fn renamed_stays_well()
@@ -23,4 +23,9 @@ pub fn epilogue_stays_well()
 /// The bounds of prologue, main loop and epilogue can stand where those of the loop can.
 pub fn split_stays_well()
     ensures { SplitStaysWell }
+{}
+
+/// Starts ahead, with the values that say where their boxes begin, are well-formed where what they need is in scope.
+pub fn starts_stay_well()
+    ensures { StartsStayWell }
 {}
