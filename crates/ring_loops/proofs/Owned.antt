@@ -47,7 +47,7 @@ module _ (own : Name → Bool) where
   behind_own (Wait t at n ty) s o h = h
   behind_own Return s o h = h
 
-  names_own : (s : Scope) → OwnScope own s → (ns : List Name) → are_in s ns ≡ true → OwnNames own ns
+  pub names_own : (s : Scope) → OwnScope own s → (ns : List Name) → are_in s ns ≡ true → OwnNames own ns
   unfolding are_in
   names_own s h [] i = tt
   names_own s h (n ∷ ns) i = let two = and_parts (is_in s n) (list_all (is_in s) ns) i in (h n two.0, names_own s h ns two.1)

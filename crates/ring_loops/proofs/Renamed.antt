@@ -79,7 +79,7 @@ module _ (f : Name → Name) (own : Name → Bool) (apart : KeepsApart f own) wh
   one_dealloc m (Wait z at n ty) o h = refl
   one_dealloc m Return o h = refl
 
-  all_deallocs : (m : Name) (n : Nest) → own m ≡ true → OwnedNest own n → deallocs (f m) (named f n) ≡ deallocs m n
+  pub all_deallocs : (m : Name) (n : Nest) → own m ≡ true → OwnedNest own n → deallocs (f m) (named f n) ≡ deallocs m n
   unfolding deallocs
   all_deallocs m Nothing o h = refl
   all_deallocs m (Loop line v l u s body rest) o h = λ i. all_deallocs m body o h.3 i + all_deallocs m rest o h.4 i

@@ -120,9 +120,9 @@ module _ (name : ℕ → Name) (apart : (i j : ℕ) → same_name (name i) (name
   place_by true k s = put-same (put s (least_name name k) a_number) (place_name name k) a_number (place_name name k) (same_name-refl (place_name name k))
   place_by false k s = put-same s (place_name name k) a_number (place_name name k) (same_name-refl (place_name name k))
 
-  other_by : (c : Bool) (k : ℕ) (s : Scope) (n : Name) → ((i : ℕ) → same_name (name i) n ≡ false) → by_clamp c k s n ≡ s n
-  other_by true k s n h = put-other (put s (least_name name k) a_number) (place_name name k) a_number n (h (7 + 4 * k)) ∙ put-other s (least_name name k) a_number n (h (8 + 4 * k))
-  other_by false k s n h = put-other s (place_name name k) a_number n (h (7 + 4 * k))
+  other_by : (c : Bool) (k : ℕ) (s : Scope) (n : Name) → ((d : ℕ) → (same_name (place_name name d) n ≡ false) × (same_name (least_name name d) n ≡ false)) → by_clamp c k s n ≡ s n
+  other_by true k s n h = put-other (put s (least_name name k) a_number) (place_name name k) a_number n (h k).0 ∙ put-other s (least_name name k) a_number n (h k).1
+  other_by false k s n h = put-other s (place_name name k) a_number n (h k).0
 
   text_by : (c : Bool) (k : ℕ) (d : Dimension) (ts : List (Name × ℤ)) (rest : Nest) (s : Scope) (e : Name → Bool) → Free k s → TermsStand s ts → WellFormed rest (by_clamp c k s) e
       → WellFormed (if c
@@ -153,7 +153,7 @@ module _ (name : ℕ → Name) (apart : (i j : ℕ) → same_name (name i) (name
   keeps_one k d [] s h = kept_itself s
   keeps_one k d (t ∷ ts) s h = keeps_by d.clamped k s h
 
-  other_one : (k : ℕ) (d : Dimension) (ts : List (Name × ℤ)) (s : Scope) (n : Name) → ((i : ℕ) → same_name (name i) n ≡ false) → place_scope name k d ts s n ≡ s n
+  other_one : (k : ℕ) (d : Dimension) (ts : List (Name × ℤ)) (s : Scope) (n : Name) → ((d : ℕ) → (same_name (place_name name d) n ≡ false) × (same_name (least_name name d) n ≡ false)) → place_scope name k d ts s n ≡ s n
   other_one k d [] s n h = refl
   other_one k d (t ∷ ts) s n h = other_by d.clamped k s n h
 
@@ -168,7 +168,7 @@ module _ (name : ℕ → Name) (apart : (i j : ℕ) → same_name (name i) (name
       let t = place_scope name k d d.terms s in
       kept_on s t (places_scope name (suc k) ds t) (keeps_one k d d.terms s h) (keeps_places (suc k) ds t (free_behind k d d.terms s h))
 
-  other_places : (k : ℕ) (ds : List Dimension) (s : Scope) (n : Name) → ((i : ℕ) → same_name (name i) n ≡ false) → places_scope name k ds s n ≡ s n
+  other_places : (k : ℕ) (ds : List Dimension) (s : Scope) (n : Name) → ((d : ℕ) → (same_name (place_name name d) n ≡ false) × (same_name (least_name name d) n ≡ false)) → places_scope name k ds s n ≡ s n
   other_places k [] s n h = refl
   other_places k (d ∷ ds) s n h = other_places (suc k) ds (place_scope name k d d.terms s) n h ∙ other_one k d d.terms s n h
 
@@ -340,7 +340,7 @@ module _ (buffers : ℕ) (v : Name) (lower upper : Bound) (step : ℤ) (f : Name
   cans_behind s d p can [] none h = tt
   cans_behind s d p can (q ∷ qs) none h =
       let t = places_scope (name_of p) 0 (boxes p) s in (
-        λ reads. can_behind s t d q (keeps_places (name_of p) can.apart 0 (boxes p) s (free_first s d p can)) (λ i. other_places (name_of p) can.apart 0 (boxes p) s (name_of q i) (λ j. none.0 j i)) (h.0 reads),
+        λ reads. can_behind s t d q (keeps_places (name_of p) can.apart 0 (boxes p) s (free_first s d p can)) (λ i. other_places (name_of p) can.apart 0 (boxes p) s (name_of q i) (λ k. (none.0 (7 + 4 * k) i, none.0 (8 + 4 * k) i))) (h.0 reads),
         h.1,
         cans_behind s d p can qs none.1 h.2,
       )

@@ -8,25 +8,25 @@ use Rattle.affine_ast.specs.declared.name.Name.{Name}
 use Rattle.affine_ast.specs.Names.{same_name}
 use Rattle.affine_ast.proofs.Names.{same_name-eq, same_name-is, same_name-refl, same_name-sym}
 use Rattle.affine_ast.specs.Nest.{Nest}
-use Rattle.affine_ast.specs.Rules.{is_in, is_new}
+use Rattle.affine_ast.specs.Rules.{is_in, is_new, deallocs}
 use Rattle.affine_ast.specs.Scope.{Binding, Scope}
 use Rattle.numbered_names.specs.Numbers.{defined, made_of}
 use Rattle.placement_texts.specs.Own.{OwnNames}
 use Rattle.placement_texts.specs.Renamed.{KeepsApart}
-use Rattle.ring_plans.specs.Rings.{twin, twin_of_some}
+use Rattle.ring_plans.specs.Rings.{twin, twin_of_some, twin_text}
 use Rattle.ring_validity.specs.Wells.{WellFormed}
 use Rattle.ring_loops.specs.Law.{TwinsAreNew, ReleasedAreKnown, EpilogueStaysWell}
-use Rattle.ring_loops.proofs.Owned.{AllNew, defines_new_names, listed_new}
-use Rattle.ring_loops.proofs.Renamed.{renamed_well}
+use Rattle.ring_loops.proofs.Owned.{AllNew, defines_new_names, listed_new, well_owns}
+use Rattle.ring_loops.proofs.Renamed.{renamed_well, all_deallocs}
 
-twin_eq : (a b : Name) → twin a ≡ twin b → a ≡ b
+pub twin_eq : (a b : Name) → twin a ≡ twin b → a ≡ b
 twin_eq a b h =
     let text = append_cancel_right a.text b.text (50 ∷ []) (ap (λ (n : Name). n.text) h) in
     let made = ap (λ (n : Name). n.made) h in
     λ i. record { text = text i; made = made i }
 
 -- names that are equal where these two are
-same_as : (a b x y : Name) → (a ≡ b → x ≡ y) → (x ≡ y → a ≡ b) → same_name x y ≡ same_name a b
+pub same_as : (a b x y : Name) → (a ≡ b → x ≡ y) → (x ≡ y → a ≡ b) → same_name x y ≡ same_name a b
 same_as a b x y f g = by (same_name a b) (same_name x y) refl refl
   where
     by : (c k : Bool) → same_name a b ≡ c → same_name x y ≡ k → same_name x y ≡ same_name a b
@@ -34,14 +34,14 @@ same_as a b x y f g = by (same_name a b) (same_name x y) refl refl
     by false false h j = j ∙ sym h
     by false true h j = let z : false ≡ true = sym h ∙ same_name-is a b (g (same_name-eq x y j)) in absurd (cc)
 
-new_is_out : (s : Scope) (n : Name) → is_new s n ≡ true → is_in s n ≡ false
+pub new_is_out : (s : Scope) (n : Name) → is_new s n ≡ true → is_in s n ≡ false
 new_is_out s n h = by (is_in s n) h
   where
     by : (c : Bool) → not c ≡ true → c ≡ false
     by false k = refl
     by true k = absurd (cc)
 
-out_is_none : (s : Scope) (n : Name) → is_in s n ≡ false → s n ≡ None
+pub out_is_none : (s : Scope) (n : Name) → is_in s n ≡ false → s n ≡ None
 unfolding is_in
 out_is_none s n h = by (s n) h
   where
@@ -140,6 +140,14 @@ module _ (n : Nest) (s : Scope) (d : Name → Bool) (new : TwinsAreNew n s) (rel
       by : (c : Bool) → has m ≡ c → d (f m) ≡ d m
       by false h = ap d (to_itself m h)
       by true h = ap d (to_twin m h) ∙ released (twin m) (new_is_out s (twin m) (new.scope m h)) ∙ sym (released m (new_is_out s m (old_is_new m h)))
+
+  -- what is in scope is released there as often
+  pub twin_deallocs : (r : Name) → is_in s r ≡ true → deallocs r (twin_text n) ≡ deallocs r n
+  twin_deallocs r h = by (has r) refl
+    where
+      by : (c : Bool) → has r ≡ c → deallocs r (twin_text n) ≡ deallocs r n
+      by false e = ap (λ m. deallocs m (twin_text n)) (sym (to_itself r e)) ∙ all_deallocs f own apart r n (own_scope r h) (well_owns own n s d own_scope own_names w)
+      by true e = let z : true ≡ false = sym h ∙ new_is_out s r (old_is_new r e) in absurd (cc)
 
 pub epilogue_well : EpilogueStaysWell
 epilogue_well n s d new released w =

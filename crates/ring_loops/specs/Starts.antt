@@ -70,4 +70,4 @@ module _ (buffers : ℕ) (v : Name) (lower upper : Bound) (step : ℤ) (f : Name
   -- this name is no place of any of them
   abbrev pub IsNoPlace : Name → List Placement → Type 0
   IsNoPlace n [] = Unit {0}
-  IsNoPlace n (p ∷ ps) = ((i : ℕ) → same_name (ahead_name p i) n ≡ false) × IsNoPlace n ps
+  IsNoPlace n (p ∷ ps) = ((k : ℕ) → (same_name (place_name (ahead_name p) k) n ≡ false) × (same_name (least_name (ahead_name p) k) n ≡ false)) × IsNoPlace n ps

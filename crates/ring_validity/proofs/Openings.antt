@@ -28,7 +28,7 @@ use Rattle.ring_validity.proofs.Same.{Same, AllSame, are_same, operands_same, bo
 use Rattle.ring_validity.proofs.Body.{there_or_not, bound_uses_in}
 use Rattle.ring_validity.proofs.Forms.{behind_leaves, behind_pure, sum_leaves, sum_pure}
 
-new_is_none : (s : Scope) (n : Name) → is_new s n ≡ true → s n ≡ None
+pub new_is_none : (s : Scope) (n : Name) → is_new s n ≡ true → s n ≡ None
 unfolding is_in
 new_is_none s n h = by (s n) h
   where
@@ -36,7 +36,7 @@ new_is_none s n h = by (s n) h
     by None k = refl
     by (Some b) k = absurd (cc)
 
-new_as : (s t : Scope) (n : Name) → t n ≡ s n → is_new s n ≡ true → is_new t n ≡ true
+pub new_as : (s t : Scope) (n : Name) → t n ≡ s n → is_new s n ≡ true → is_new t n ≡ true
 unfolding is_in
 new_as s t n e h = ap (λ x. not (is_some x)) e ∙ h
 

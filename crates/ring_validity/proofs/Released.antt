@@ -88,7 +88,7 @@ module _ (buffers : ℕ) (v : Name) (lower upper : Bound) (step : ℤ) (p : Plac
   abbrev ring : Nest → Nest
   ring n = all_in_ring buffers v lower upper step p n
 
-  all_same : (n : Nest) → deallocs r (ring n) ≡ deallocs r n
+  pub all_same : (n : Nest) → deallocs r (ring n) ≡ deallocs r n
   unfolding deallocs
   all_same Nothing = refl
   all_same (Loop line w l u s body rest) = λ i. all_same body i + all_same rest i
