@@ -1,6 +1,5 @@
 pub mod Walks
 pub mod Standing
-pub mod Candidates
 pub mod Settling
 pub mod Listed
 pub mod Planned

@@ -29,8 +29,9 @@ use Rattle.hoisted_sites.specs.declared.hoisting.Site.{Site}
 use Rattle.hoisted_sites.specs.declared.standing.Asking.{Asking}
 use Rattle.hoisted_sites.specs.Sites.{by_cause}
 use Rattle.hoisted_sites.specs.Hoisting.{module_of, text_of, site_of, IsHoisted}
-use Rattle.copy_place.specs.declared.candidate.Candidate.{Candidate}
-use Rattle.copy_place.specs.Planning.{IsCandidate, IsSettledAs, TriesSite, settled_for}
+use Rattle.placed_sites.specs.declared.placing.Candidate.{Candidate}
+use Rattle.placed_sites.specs.Placing.{IsCandidate}
+use Rattle.copy_place.specs.Planning.{IsSettledAs, TriesSite, settled_for}
 
 module _ (a : Asking) (m : Name) (ty : MemrefType) (s : Spot) (x : Site) where
   abbrev n : Nest

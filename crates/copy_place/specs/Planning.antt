@@ -1,50 +1,26 @@
 -- The plan as it is made, block by block and memref by memref: by the plan without its test on intervals, which is the plan.
-use Rattle.std.specs.Prelude.{◌≡◌, ℕ, ◌<◌, ◌^◌, List, [], ◌∷◌, ◌++◌, get_or, length, map, take, Ok}
+use Rattle.std.specs.Prelude.{◌≡◌, ℕ, ◌<◌, List, [], ◌∷◌, ◌++◌, get_or, length, take}
 use Rattle.affine_ast.specs.declared.name.Name.{Name}
 use Rattle.affine_ast.specs.declared.types.MemrefType.{MemrefType}
-use Rattle.affine_ast.specs.Sizes.{product}
 use Rattle.nest_domain.specs.declared.plan.Outcome.{Outcome}
-use Rattle.nest_domain.specs.Ways.{loop_count}
-use Rattle.placement_code.specs.Placed.{placement_of, MayBeWritten}
-use Rattle.placement_regions.specs.Sites.{way_to, region_there}
 use Rattle.placement_stage.specs.Places.{spot_of}
 use Rattle.placement_texts.specs.Fold.{Step}
 use Rattle.placement_texts.specs.Spots.{Spot, Here}
-use Rattle.placement_texts.specs.Template.{dim_extents}
-use Rattle.staged_plans.specs.Plans.{uses_there}
 use Rattle.text_places.specs.Blocks.{Block, accessed}
-use Rattle.text_places.specs.Finding.{seen}
 use Rattle.loop_paths.specs.declared.paths.LoopPath.{LoopPath}
 use Rattle.plan_laws.specs.Sites.{loops_at}
-use Rattle.plan_laws.specs.Plan.{Asked, Settled, firsts, type_of, accesses_in, placement_at, steps_with, outcome_of, asked_from}
+use Rattle.plan_laws.specs.Plan.{Asked, Settled, firsts, type_of, accesses_in, steps_with, outcome_of, asked_from}
 use Rattle.placed_intervals.specs.Untested.{fitted_at, fitted_for}
-use Rattle.text_limits.specs.Adding.{condition_count}
 use Rattle.plan_tests.specs.declared.tests.Tests.{Tests}
 use Rattle.plan_tests.specs.Testing.{TestsFor, AreFew}
 use Rattle.untested_plans.specs.Law.{decided_of, AreAside}
 use Rattle.hoisted_sites.specs.declared.hoisting.Site.{Site}
 use Rattle.hoisted_sites.specs.declared.standing.Asking.{Asking}
-use Rattle.hoisted_sites.specs.Sites.{IsLoopPath, StandsAt}
+use Rattle.hoisted_sites.specs.Sites.{StandsAt}
 use Rattle.hoisted_sites.specs.Hoisting.{module_of, text_of, site_of, IsBlock}
-use Rattle.copy_place.specs.declared.candidate.Candidate.{Candidate}
 use Rattle.copy_place.specs.declared.blocks.Planning.{Planning}
 
 -- ---- one memref in one block
--- a loop, with the accesses of a memref there and its region
-pub record IsSiteOf (a : Asking) (m : Name) (ty : MemrefType) (x : Site) : Type 0 where
-  pub path : IsLoopPath (text_of a) x.at
-  pub uses : map seen x.uses.items ≡ uses_there (text_of a) m (spot_of x.at.steps)
-  pub found : region_there (module_of a).args (text_of a) m (spot_of x.at.steps) ty.sizes a.options.dma ≡ Ok x.region
-
--- the placement of this number there, whose numbers may be written, and so many loops and conditions stand round it
-pub record IsCandidate (a : Asking) (m : Name) (ty : MemrefType) (number : ℕ) (x : Site) (c : Candidate) : Type 0 where
-  pub site : c.site ≡ x
-  pub placed : placement_of c.placed ≡ placement_at a.options (module_of a).args (text_of a) number m ty (site_of x)
-  pub written : MayBeWritten c.placed
-  pub narrow : product (dim_extents c.placed.dims) < 2 ^ 32
-  pub loops : c.round.loops ≡ loop_count (way_to (spot_of x.at.steps) (text_of a))
-  pub ifs : c.round.ifs ≡ condition_count (way_to (spot_of x.at.steps) (text_of a))
-
 -- what the plan settles is the outcome, and the tests are those of the text that this leaves
 pub record IsSettledAs (a : Asking) (blocks : List Spot) (steps : List Step) (y : Settled) (outcome : Outcome) (new : Tests) : Type 0 where
   pub is : outcome ≡ outcome_of a.options (module_of a).args (text_of a) y

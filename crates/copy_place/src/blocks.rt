@@ -11,13 +11,13 @@ ghost use Rattle.hoisted_sites.specs.Sites.{StandsAt};
 ghost use Rattle.hoisted_sites.specs.Hoisting.{module_of, text_of, IsBlock};
 ghost use Rattle.copy_place.specs.Planning.{blocks_of, IsBlockOf, IsPlannedTo};
 
-use crate::candidate::as_number;
 use crate::settle::decided;
 use affine_ast::{Name, Verified};
 use hoisted_sites::{Asking, argument_number};
 use loop_paths::{LoopPath, loops_at, paths_are_spots};
 use name_hash::NameHashing;
 use nest_domain::{Decision, Options, Outcome, Plan};
+use placed_sites::as_number;
 use plan_blocks::{blocks_are_loops, memrefs_are_firsts};
 use plan_tests::Tests;
 use std::alloc::{AllocError, Global};

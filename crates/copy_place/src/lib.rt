@@ -6,7 +6,6 @@
 
 mod blocks;
 mod bytes;
-mod candidate;
 mod settle;
 
 pub use blocks::plan;

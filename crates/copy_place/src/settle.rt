@@ -13,12 +13,12 @@ ghost use Rattle.hoisted_sites.specs.Sites.{StandsAt};
 ghost use Rattle.hoisted_sites.specs.Hoisting.{module_of, text_of, IsBlock, IsHoisted};
 ghost use Rattle.copy_place.specs.Planning.{TriesSite, Decides};
 
-use crate::candidate::{Candidate, placed_at};
 use access_region::{Outside, RegionFault};
 use affine_ast::{MemrefType, Name};
 use hoisted_sites::{Asking, Site, site_for, type_of};
 use loop_paths::LoopPath;
 use nest_domain::{Cause, Doubling, Outcome};
+use placed_sites::{Candidate, placed_at};
 use plan_tests::Tests;
 use std::alloc::{AllocError, Global};
 use text_limits::planned_are_described;

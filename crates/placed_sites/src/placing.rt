@@ -9,7 +9,7 @@ ghost use Rattle.plan_laws.specs.Plan.{type_of};
 ghost use Rattle.text_limits.specs.Adding.{condition_count};
 ghost use Rattle.hoisted_sites.specs.Sites.{IsLoopPath};
 ghost use Rattle.hoisted_sites.specs.Hoisting.{module_of, text_of, IsHoisted};
-ghost use Rattle.copy_place.specs.Planning.{IsSiteOf, IsCandidate};
+ghost use Rattle.placed_sites.specs.Placing.{IsSiteOf, IsCandidate};
 
 use access_region::covers;
 use affine_ast::{MemrefType, Name};
@@ -23,14 +23,14 @@ use text_limits::Round;
 
 /// A placement at its site, with how many loops and conditions stand round it.
 #[derive(Drop)]
-pub(crate) struct Candidate<'a> {
+pub struct Candidate<'a> {
     pub site: Site<'a>,
     pub placed: Placement,
     pub round: Round,
 }
 
 /// The number of a block or of an argument; there are fewer than 2^32 of either.
-pub(crate) fn as_number(number: usize) -> Result<u32, AllocError>
+pub fn as_number(number: usize) -> Result<u32, AllocError>
     ensures { IfOk result (λ same. same ≡ number) }
 {
     match u32::try_from(number) {
@@ -99,7 +99,7 @@ fn reads_in<'a>(
 }
 
 /// The placement of a memref at its site, with this number.
-pub(crate) fn placed_at<'a>(
+pub fn placed_at<'a>(
     alloc: Global,
     asking: &Asking<'a>,
     memref: &Name,

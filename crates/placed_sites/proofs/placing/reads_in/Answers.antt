@@ -6,8 +6,8 @@ use Rattle.access_region.specs.Finding.{covers_at}
 use Rattle.std.specs.Prelude.{slice_get}
 use Rattle.plan_laws.specs.Plan.{argument_number}
 use Rattle.hoisted_sites.specs.Hoisting.{module_of, text_of}
-use Rattle.copy_place.proofs.Standing.{names_loop, argument_within, is_told}
-use Rattle.copy_place.proofs.candidate.reads_in.Goals as goal
+use Rattle.placed_sites.proofs.Standing.{names_loop, argument_within, is_told}
+use Rattle.placed_sites.proofs.placing.reads_in.Goals as goal
 
 pub covers-requires-clause-path : goal.covers-requires-clause-path
 covers-requires-clause-path c =

@@ -2,7 +2,7 @@ use Rattle.std.proofs.Common.{◌≡◌, ◌+◌, ◌≤◌, map, drop}
 use Rattle.nest_domain.specs.Steps.{header_of}
 use Rattle.nest_domain.specs.Ways.{loop_count}
 use Rattle.text_limits.specs.Adding.{condition_count}
-use Rattle.copy_place.proofs.candidate.round_of.Given as goal
+use Rattle.placed_sites.proofs.placing.round_of.Given as goal
 
 abbrev pub invariant-loop-step : goal.invariant-loop-step
 invariant-loop-step l = record {

@@ -10,8 +10,8 @@ use Rattle.text_limits.specs.Adding.{condition_count}
 use Rattle.hoisted_sites.specs.declared.hoisting.Site.{Site}
 use Rattle.hoisted_sites.specs.Sites.{StandsAt}
 use Rattle.hoisted_sites.specs.Hoisting.{text_of}
-use Rattle.copy_place.proofs.Candidates.{may_be_placed, is_candidate}
-use Rattle.copy_place.proofs.candidate.placed_at.Goals as goal
+use Rattle.placed_sites.proofs.Candidates.{may_be_placed, is_candidate}
+use Rattle.placed_sites.proofs.placing.placed_at.Goals as goal
 
 -- what was found of the site, whose parts were read
 pub placement-requires-clause-region : goal.placement-requires-clause-region

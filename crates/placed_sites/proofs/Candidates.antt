@@ -25,9 +25,9 @@ use Rattle.hoisted_sites.specs.declared.hoisting.Site.{Site}
 use Rattle.hoisted_sites.specs.declared.standing.Asking.{Asking}
 use Rattle.hoisted_sites.specs.Sites.{StandsAt}
 use Rattle.hoisted_sites.specs.Hoisting.{module_of, text_of, site_of}
-use Rattle.copy_place.specs.declared.candidate.Candidate.{Candidate}
-use Rattle.copy_place.specs.Planning.{IsSiteOf, IsCandidate}
-use Rattle.copy_place.proofs.Standing.{way_found, few_elements}
+use Rattle.placed_sites.specs.declared.placing.Candidate.{Candidate}
+use Rattle.placed_sites.specs.Placing.{IsSiteOf, IsCandidate}
+use Rattle.placed_sites.proofs.Standing.{way_found, few_elements}
 
 module _ (law : RegionsMayBePlaced) (a : Asking) (m : Name) (ty : MemrefType) (x : Site) (b : Block) (valid : IsValid (module_of a)) (h : IsSiteOf a m ty x) (typed : type_of (module_of a).args m ≡ Some ty) (k : StandsAt (text_of a) (spot_of x.at.steps) b) where
   abbrev Place : Spot
