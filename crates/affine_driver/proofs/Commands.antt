@@ -1,7 +1,7 @@
 -- Words ask for one command, by its first word and the values of its options.
 use mathlib.Core.Bool.{beq}
 use Rattle.std.proofs.Common.{◌≡◌, ℕ, ◌<◌, ◌≤◌, Bool, true, false, List, [], ◌∷◌, Option, Some, None, ℤ, pos, negsuc, refl, sym, ap, ◌∙◌, subst, arith, lit<, length, map, take, drop, get_or, ◌-◌, Result}
-use Rattle.std.specs.Prelude.{◌↔◌, int_le, nat_lt, if◌then◌else◌, codes}
+use Rattle.std.specs.Prelude.{◌↔◌, int_le, nat_lt, if◌then◌else◌, codes, option_map, option_and_then}
 use Rattle.std.specs.Prelude.{IfOk}
 use Rattle.std.specs.Borrow.{Bor}
 use Rattle.std.specs.Str.{bytes_eq}
@@ -13,8 +13,9 @@ use Rattle.std.proofs.lemmas.Slice.Eq.{bytes_eq-Decides}
 use Rattle.command_words.specs.declared.options.Takes.TheVariants as takes
 use Rattle.command_words.specs.declared.options.Value.{Value}
 use Rattle.command_words.specs.declared.options.Value.TheVariants as value
-use Rattle.command_words.specs.Options.{OptionRule, is_between, is_there, is_table, Gives}
-use Rattle.command_words.specs.Values.{natural_of, Fits, AllFit}
+use Rattle.command_words.specs.Options.{OptionRule, is_between, is_there, is_table, value_in, values_in, Gives}
+use Rattle.command_words.specs.Words.{Item}
+use Rattle.command_words.specs.Values.{flag_of, natural_of, Fits, AllFit}
 use Rattle.command_words.proofs.Fit.{gives_fit}
 use Rattle.command_words.proofs.Known.{and_both}
 use Rattle.command_words.proofs.Taken.{if_ok}
@@ -25,7 +26,7 @@ use Rattle.affine_driver.specs.declared.command.FirstWord.TheVariants as first
 use Rattle.affine_driver.specs.declared.table.TheConstants.{REGIONS_DEPTH, STAGE_DEPTH, STAGE_DMA, STAGE_DOUBLE, STAGE_BUFFERS, STAGE_CAPACITY, RUN_CAPACITY, RUN_FILLER, RUN_ENGINES, ORDER_CAPACITY, ORDER_FILLER, ORDER_ENGINES, ORDER_PICK, BOTH_DEPTH, BOTH_DMA, BOTH_DOUBLE, BOTH_BUFFERS, BOTH_CAPACITY, BOTH_FILLER, BOTH_ENGINES, SAMPLE_NUMBER}
 use Rattle.affine_driver.specs.declared.table.TheConstants.{DEPTH, BUFFERS, CAPACITY, FILLER, ENGINES, PICK, NUMBER}
 use Rattle.affine_driver.specs.Table.{alone, behind, word_of, name_of, standing_of, options_of}
-use Rattle.affine_driver.specs.Command.{stage_values, run_values, values_of, stage_options, run_options, AsksFor, IsAllowed, AsksBehind, first_word, command_by, runs_threads}
+use Rattle.affine_driver.specs.Command.{stage_values, run_values, values_of, stage_options, run_options, AsksFor, IsAllowed, AsksBehind, first_word, command_by, runs_threads, asks_doubled}
 
 some_is : {X : Type 0} (x y : X) → Some x ≡ Some y → x ≡ y
 some_is x y h = cc
@@ -362,9 +363,43 @@ words_ask ws d w r h e told = if_ok r
     ))
     told
 
+-- the values of a list, one by one
+values_behind : (items : List Item) (o : OptionRule) (os : List OptionRule) (v : Value) (vs : List Value) → values_in items (o ∷ os) ≡ Some (v ∷ vs) → (value_in items o ≡ Some v) × (values_in items os ≡ Some vs)
+values_behind items o os v vs e = by (value_in items o) (values_in items os) refl refl e
+  where
+    by : (x : Option Value) (xs : Option (List Value)) → value_in items o ≡ x → values_in items os ≡ xs → option_and_then (λ first. option_map (λ rest. first ∷ rest) xs) x ≡ Some (v ∷ vs)
+        → (value_in items o ≡ Some v) × (values_in items os ≡ Some vs)
+    by None xs p q h = no_some (v ∷ vs) h
+    by (Some x) None p q h = no_some (v ∷ vs) h
+    by (Some x) (Some xs) p q h = let l : x ∷ xs ≡ v ∷ vs = some_is (x ∷ xs) (v ∷ vs) h in (p ∙ ap Some (let z : x ≡ v = cc in z), q ∙ ap Some (let z : xs ≡ vs = cc in z))
+
+-- an option that the program hasn't has its default
+third_flag : (items : List Item) (a b c : OptionRule) (more : List OptionRule) (u v : Value) (given : Bool) (vs : List Value) → value_in items c ≡ Some (value.Flag false)
+    → values_in items (a ∷ b ∷ c ∷ more) ≡ Some (u ∷ v ∷ value.Flag given ∷ vs) → given ≡ false
+third_flag items a b c more u v given vs default e =
+    let one = values_behind items a (b ∷ c ∷ more) u (v ∷ value.Flag given ∷ vs) e in
+    let two = values_behind items b (c ∷ more) v (value.Flag given ∷ vs) one.1 in
+    let three = values_behind items c more (value.Flag given) vs two.1 in
+    ap flag_of (sym three.0 ∙ default)
+
+-- doubled loops aren't built, so nobody asks for them
+single : (command : Command) (items : List Item) → values_in items (options_of (word_of command)) ≡ Some (values_of command) → asks_doubled command ≡ false
+single command.Check items h = refl
+single (command.Regions o) items h = refl
+single (command.Stage o) items h = third_flag items (alone (codes "depth") DEPTH STAGE_DEPTH) (alone (codes "dma") takes.Flag STAGE_DMA) (behind (codes "dma") (codes "double") takes.Flag STAGE_DOUBLE) (behind (codes "double") (codes "buffers") BUFFERS STAGE_BUFFERS ∷ alone (codes "capacity") CAPACITY STAGE_CAPACITY ∷ []) _ _ o.double _ refl h
+single command.Plain items h = refl
+single (command.Run o) items h = refl
+single (command.Order o) items h = refl
+single (command.Both o) items h = third_flag items (alone (codes "depth") DEPTH BOTH_DEPTH) (alone (codes "dma") takes.Flag BOTH_DMA) (behind (codes "dma") (codes "double") takes.Flag BOTH_DOUBLE) (behind (codes "double") (codes "buffers") BUFFERS BOTH_BUFFERS ∷ alone (codes "capacity") CAPACITY BOTH_CAPACITY ∷ alone (codes "filler") FILLER BOTH_FILLER ∷ alone (codes "engines") ENGINES BOTH_ENGINES ∷ []) _ _ o.stage.double _ refl h
+single (command.Sample o) items h = refl
+
 -- a command that words ask for is one that the program has, with options in their ranges
 pub allowed : (words : List (List ℕ)) (command : Command) → AsksFor words command → IsAllowed command
-allowed words command a = record { built = a.built; fit = gives_fit (options_of (word_of command)) a.behind (values_of command) (tables (word_of command)) a.given }
+allowed words command a = record {
+  built = a.built;
+  fit = gives_fit (options_of (word_of command)) a.behind (values_of command) (tables (word_of command)) a.given;
+  single = single command a.given.items a.given.valued;
+}
 
 pub one_command : (found : Option Command) (a b : Command) → found ≡ Some a → found ≡ Some b → a ≡ b
 one_command found a b h k = some_is a b (sym h ∙ k)

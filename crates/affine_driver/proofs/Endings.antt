@@ -1,5 +1,5 @@
 -- A source decides how it is answered.
-use Rattle.std.proofs.Common.{◌≡◌, ℕ, ◌≤◌, List, [], ◌∷◌, ◌++◌, map, Bool, true, false, Option, Some, None, refl, sym, ◌∙◌, ap, subst, inl, inr, arith}
+use Rattle.std.proofs.Common.{◌≡◌, ℕ, ◌≤◌, List, ◌++◌, Bool, true, false, Option, Some, None, refl, sym, ◌∙◌, ap, subst, inl, inr, arith}
 use Rattle.std.specs.Prelude.{◌⊎◌}
 use Rattle.affine_ast.specs.declared.image.Image as ast
 use Rattle.affine_ast.specs.declared.module.Module.{Module}
@@ -14,33 +14,30 @@ use Rattle.direct_meaning.specs.Direct.{plain, verdict_of}
 use Rattle.direct_meaning.specs.Work.{work}
 use Rattle.prompt_semantics.specs.Prompt.{prompt_verdict, prompt_slow}
 use Rattle.run_laws.specs.StaysFitting.{with_slow}
-use Rattle.copy_emit.specs.FirstPlan.{Planned, first_plan, first_staged}
-use Rattle.copy_emit.specs.Law.{staged}
-use Rattle.first_path.specs.declared.place.Placement.{Placement}
-use Rattle.first_path.specs.declared.stage.Staged.{Staged}
-use Rattle.first_path.specs.Law.{IsStagedBy}
-use Rattle.first_path.specs.Plan.{planned_of}
-use Rattle.first_path.proofs.Forms.{one_loop}
-use Rattle.first_path.specs.Form.{IsOfFirstForm}
 use Rattle.mem_image.specs.Images as image
 use Rattle.mem_image.specs.Laws.{SpellsOne, BreaksOne, NotBoth}
 use Rattle.order_meaning.specs.Listed.{ListsOne}
 use Rattle.module_regions.specs.Lines.{regions_text}
+use Rattle.plan_laws.specs.Plan.{plan}
+use Rattle.plan_report.specs.Report.{report}
 use Rattle.source_parts.specs.Parts.{text_part, image_part}
+use Rattle.stage_laws.specs.Law.{IsStageOf}
+use Rattle.stage_reports.specs.Law.{HasOneStage}
 use Rattle.affine_driver.specs.declared.command.Command.{Command}
 use Rattle.affine_driver.specs.declared.command.OrderOptions.{OrderOptions}
+use Rattle.affine_driver.specs.declared.command.StageOptions.{StageOptions}
 use Rattle.affine_driver.specs.declared.command.Command.TheVariants.{Check, Regions, Stage, Plain, Run, Order, Both}
 use Rattle.affine_driver.specs.declared.ending.Ending.{Ending}
 use Rattle.affine_driver.specs.declared.ending.Ending.TheVariants as end
 use Rattle.affine_driver.specs.declared.refusal.Refusal.{Refusal}
-use Rattle.affine_driver.specs.declared.refusal.Refusal.TheVariants.{Text, Invalid, Image, Turns, Fault, Unbuilt, Memory}
-use Rattle.affine_driver.specs.Behaviour.{Limited, OfFirstForm, StagedFrom, WithImage, EndsWithin, RunsToEnd, Makes, ComesTo, Refuses, Completes}
+use Rattle.affine_driver.specs.declared.refusal.Refusal.TheVariants.{Text, Invalid, Image, Turns, Fault, Memory}
+use Rattle.affine_driver.specs.Behaviour.{Limited, StagedFrom, WithImage, EndsWithin, RunsToEnd, Makes, ComesTo, Refuses, Completes}
 use Rattle.affine_driver.specs.Laws.{IsOpen, IsBuilt, EndingsAreExact, HasOneOutput}
 use Rattle.affine_driver.specs.Outcome.{Outcome, Refused, Complete, Writes, Demands, Gives}
-use Rattle.affine_driver.specs.Output.{report, prompted, order_text, IsStageOutput, IsPlainOutput, IsRunOutput, IsBothOutput, IsOrderOutput}
+use Rattle.affine_driver.specs.Output.{planning, prompted, order_text, IsStageOutput, IsPlainOutput, IsRunOutput, IsBothOutput, IsOrderOutput}
 use Rattle.affine_driver.specs.Reading.{Because}
 use Rattle.affine_driver.proofs.Orders.{same_numbers}
-use Rattle.affine_driver.specs.Refusals.{ending_of, SpellsNone, BreaksRule, BreaksLimits, IsOtherForm, SpellsNoImage, work_limit, IsTooMuch, StopsAt, OrMemory}
+use Rattle.affine_driver.specs.Refusals.{ending_of, SpellsNone, BreaksRule, BreaksLimits, SpellsNoImage, work_limit, IsTooMuch, StopsAt, OrMemory}
 
 -- ---- Some values differ
 
@@ -134,6 +131,7 @@ pub record Known : Type 0 where
   pub texts : TextLaws
   pub images : ImageLaws
   pub lists : ListsOne
+  pub stages : HasOneStage
 
 text_decided : TextLaws → (text : List ℕ) → Decided (SpellsNone text) (Spells text)
 text_decided laws text = record {
@@ -157,11 +155,12 @@ limits_decided input = record {
   both = λ r x h k. not_none h.0 (sym h.1.0 ∙ k);
 }
 
-form_decided : (input : Module) → Decided (IsOtherForm input) (IsOfFirstForm input)
-form_decided input = record {
-  one = λ r s h k. h.1 ∙ sym k.1;
-  same = λ x y h k. sym (one_loop input.body x y h.body k.body);
-  both = λ r x h k. h.0 x k;
+-- a module has one stage, so nothing is refused for it
+stage_decided : HasOneStage → (options : StageOptions) (input : Module) → Decided (λ refusal. ⊥) (IsStageOf (planning options) input)
+stage_decided one options input = record {
+  one = λ r s h k. absurd h;
+  same = λ x y h k. one (planning options) input x y h k;
+  both = λ r x h k. h;
 }
 
 image_decided : ImageLaws → (text : List ℕ) (input : Module) → Decided (SpellsNoImage text input) (image.Spells text input)
@@ -189,8 +188,8 @@ run_decided run = record {
 limited : (input : Module) (Behind : Outcome → Type 0) → Once Behind → Once (Limited input Behind)
 limited input Behind rest = demanded (BreaksLimits input) (λ holds. plain_fault input ≡ None) (λ holds. Behind) (limits_decided input) (λ x. rest)
 
-of_form : (input : Module) (Behind : Outcome → Type 0) → Once Behind → Once (OfFirstForm input Behind)
-of_form input Behind rest = demanded (IsOtherForm input) (IsOfFirstForm input) (λ looped. Behind) (form_decided input) (λ x. rest)
+staged_from : HasOneStage → (options : StageOptions) (input : Module) (Behind : Module → Outcome → Type 0) → ((staged : Module) → Once (Behind staged)) → Once (StagedFrom options input Behind)
+staged_from one options input Behind rest = demanded (λ refusal. ⊥) (IsStageOf (planning options) input) Behind (stage_decided one options input) rest
 
 with_image : ImageLaws → (input : Module) (text : List ℕ) (Behind : ast.Image → Outcome → Type 0) → ((memory : ast.Image) → Once (Behind memory)) → Once (WithImage input text Behind)
 with_image laws input text Behind rest = demanded (SpellsNoImage text input) (image.Spells text input) Behind (image_decided laws text input) rest
@@ -205,50 +204,16 @@ runs_to_end laws input text run Behind rest = with_image laws input text _ (λ m
 
 -- ---- One output of each kind
 
-placed_of : Planned → Placement
-placed_of p = record { memref = p.memref; size = p.size; place = p.place; extent = p.extent; writes = p.writes }
-
-placements_are : (ps : List Placement) → map placed_of (map planned_of ps) ≡ ps
-unfolding placed_of
-placements_are [] = refl
-placements_are (p ∷ ps) = ap (λ l. p ∷ l) (placements_are ps)
-
-one_staged : (input : Module) (output other : List ℕ) → IsStageOutput input output → IsStageOutput input other → output ≡ other
-one_staged input output other h k =
-    let l : h.by.looped ≡ k.by.looped = sym (one_loop input.body h.by.looped k.by.looped h.by.form.body k.by.form.body) in
-    let line : h.staged.line ≡ k.staged.line = h.by.line ∙ ap (λ x. x.line) l ∙ sym k.by.line in
-    let placed : h.staged.placements ≡ k.staged.placements =
-    sym (placements_are h.staged.placements) ∙ ap (map placed_of) (h.by.placements ∙ ap first_plan l ∙ sym k.by.placements) ∙ placements_are k.staged.placements in
-    let made : h.staged.module ≡ k.staged.module = h.by.made ∙ ap (λ x. staged input (first_staged true x) x) l ∙ sym k.by.made in
-    h.text ∙ ap (λ x. report x h.staged.placements ++ spelling h.staged.module) line ∙ ap (λ x. report k.staged.line x ++ spelling h.staged.module) placed
-    ∙ ap (λ x. report k.staged.line k.staged.placements ++ spelling x) made ∙ sym k.text
-
--- one staged module
-same_staged : (input : Module) (x y : Staged) → IsStagedBy input x → IsStagedBy input y → x ≡ y
-same_staged input x y h k =
-    let l : h.looped ≡ k.looped = sym (one_loop input.body h.looped k.looped h.form.body k.form.body) in
-    let line : x.line ≡ y.line = h.line ∙ ap (λ x. x.line) l ∙ sym k.line in
-    let placed : x.placements ≡ y.placements =
-    sym (placements_are x.placements) ∙ ap (map placed_of) (h.placements ∙ ap first_plan l ∙ sym k.placements) ∙ placements_are y.placements in
-    let made : x.module ≡ y.module = h.made ∙ ap (λ x. staged input (first_staged true x) x) l ∙ sym k.made in
-    (λ i. record { «module» = made i; placements = placed i; line = line i })
-
-staged_decided : (input : Module) → Decided (IsOtherForm input) (IsStagedBy input)
-staged_decided input = record {
-  one = λ r s h k. h.1 ∙ sym k.1;
-  same = λ x y h k. same_staged input x y h k;
-  both = λ r x h k. h.0 k.looped k.form;
-}
-
-staged_from : (input : Module) (Behind : Staged → Outcome → Type 0) → ((x : Staged) → Once (Behind x)) → Once (StagedFrom input Behind)
-staged_from input Behind rest = demanded (IsOtherForm input) (IsStagedBy input) Behind (staged_decided input) rest
+one_staged : HasOneStage → (options : StageOptions) (input : Module) (output other : List ℕ) → IsStageOutput options input output → IsStageOutput options input other → output ≡ other
+one_staged one options input output other h k =
+    h.text ∙ ap (λ x. report input (plan (planning options) input) ++ spelling x) (one (planning options) input h.staged k.staged h.is k.is) ∙ sym k.text
 
 -- two outputs with one part each, and another part behind it
 same_parts : (a b behind output other : List ℕ) → a ≡ b → output ≡ a ++ behind → other ≡ b ++ behind → output ≡ other
 same_parts a b behind output other e h k = h ∙ ap (λ x. x ++ behind) e ∙ sym k
 
-one_both : (input : Module) (memory : ast.Image) (output other : List ℕ) → IsBothOutput input memory output → IsBothOutput input memory other → output ≡ other
-one_both input memory output other h k = same_parts h.stage k.stage _ output other (one_staged input h.stage k.stage h.is k.is) h.text k.text
+one_both : HasOneStage → (options : StageOptions) (input : Module) (memory : ast.Image) (output other : List ℕ) → IsBothOutput options input memory output → IsBothOutput options input memory other → output ≡ other
+one_both one options input memory output other h k = same_parts h.stage k.stage _ output other (one_staged one options input h.stage k.stage h.is k.is) h.text k.text
 
 -- what is equal to one thing
 same_output : (text output other : List ℕ) → output ≡ text → other ≡ text → output ≡ other
@@ -264,12 +229,12 @@ one_order lists input options memory output other h k =
 makes_once : Known → (command : Command) (text : List ℕ) (input : Module) → Once (Makes command input text)
 makes_once known Check text input = given (λ output. output ≡ spelling input) (same_output (spelling input))
 makes_once known (Regions options) text input = limited input _ (given _ (same_output (regions_text input options.depth)))
-makes_once known (Stage options) text input = limited input _ (of_form input _ (given _ (λ output other h k. one_staged input output other h.0 k.0)))
+makes_once known (Stage options) text input = limited input _ (given _ (one_staged known.stages options input))
 makes_once known Plain text input = limited input _ (runs_to_end known.images input text (λ memory. verdict_of (plain input memory)) _ (λ memory. given (IsPlainOutput input memory) (same_output _)))
 makes_once known (Run options) text input = runs_to_end known.images input text (λ memory. prompt_verdict (prompted options input memory)) _ (λ memory. given (IsRunOutput input options memory) (same_output _))
 makes_once known (Order options) text input = runs_to_end known.images input text (λ memory. prompt_verdict (prompted options.run input memory)) _ (λ memory. given (IsOrderOutput input options memory) (one_order known.lists input options memory))
-makes_once known (Both options) text input = limited input _ (staged_from input _ (λ staged. with_image known.images input text _ (λ memory.
-    ends_within staged.module (verdict_of (plain input memory)) _ (given (IsBothOutput input memory) (one_both input memory)))))
+makes_once known (Both options) text input = limited input _ (staged_from known.stages options.stage input _ (λ staged. with_image known.images input text _ (λ memory.
+    ends_within staged (verdict_of (plain input memory)) _ (given (IsBothOutput options.stage input memory) (one_both known.stages options.stage input memory)))))
 makes_once known unbuilt text input = λ a b h k. absurd h
 
 comes_once : Known → (command : Command) (source : List ℕ) → Once (ComesTo command source)
@@ -291,7 +256,6 @@ tells command source (end.Invalid line rule) before now h = inr (inl (Invalid li
 tells command source (end.Image line rule) before now h = inr (inl (Image line rule, (h, refl)))
 tells command source (end.Turns count) before now h = inr (inl (Turns count, (h, refl)))
 tells command source (end.Fault kind) before now h = inr (inl (Fault kind, (h, refl)))
-tells command source end.Unbuilt before now h = inr (inl (Unbuilt, (h, refl)))
 tells command source other before now h = inl tt
 
 -- a refusal that has its reason is why the call ends so
@@ -313,7 +277,6 @@ not_too_long e r h k = by r (sym h ∙ k)
     by (Image line rule) h = absurd (let z : ⊥ = cc in z)
     by (Turns count) h = absurd (let z : ⊥ = cc in z)
     by (Fault kind) h = absurd (let z : ⊥ = cc in z)
-    by Unbuilt h = absurd (let z : ⊥ = cc in z)
     by Memory h = absurd (let z : ⊥ = cc in z)
 
 -- ---- The laws

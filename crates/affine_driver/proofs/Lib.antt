@@ -1,7 +1,7 @@
 pub mod Calls
 pub mod Commands
 pub mod Endings
+pub mod Headlines
 pub mod Orders
 pub mod Originals
 pub mod Refusals
-pub mod Reports

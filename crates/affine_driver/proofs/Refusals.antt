@@ -1,19 +1,14 @@
 -- What a source comes to, from what it is made of.
-use Rattle.std.proofs.Common.{◌≡◌, ◌≤◌, ℕ, List, length, None, Result, Ok, Err, refl, sym, ◌∙◌, ap, subst, inl, inr, arith}
+use Rattle.std.proofs.Common.{◌≡◌, ℕ, List, Result, Ok, Err, refl, sym, ◌∙◌, ap, subst, inl, inr}
 use Rattle.affine_ast.specs.declared.image.Image.{Image}
 use Rattle.affine_ast.specs.declared.module.Module.{Module}
 use Rattle.affine_ast.specs.Validity.{IsValid, first_broken}
-use Rattle.affine_ast.specs.PlainLimits.{plain_fault}
 use Rattle.affine_text.specs.declared.fault.ParseFault.{ParseFault}
 use Rattle.affine_text.specs.declared.fault.ParseFault.TheVariants as parser
 use Rattle.affine_text.specs.Parsed.{Parses}
 use Rattle.affine_verify.specs.declared.fault.VerifyFault.{VerifyFault}
 use Rattle.affine_verify.specs.declared.fault.VerifyFault.TheVariants as rules
 use Rattle.affine_verify.specs.Comes.{IsTold}
-use Rattle.copy_emit.specs.Template.{FirstLoop}
-use Rattle.first_path.specs.Form.{IsOfFirstForm}
-use Rattle.first_path.specs.Valid.{IsValidFirst}
-use Rattle.first_rules.specs.Laws.{FirstFormRules}
 use Rattle.affine_grammar.specs.Spelling.{Spells}
 use Rattle.mem_image.specs.declared.parse.ImageFault.{ImageFault}
 use Rattle.mem_image.specs.declared.parse.ImageFault.TheVariants as image_fault
@@ -23,20 +18,11 @@ use Rattle.module_regions.specs.declared.fault.LinesFault.{LinesFault}
 use Rattle.module_regions.specs.declared.fault.LinesFault.TheVariants as lines
 use Rattle.module_regions.specs.Lines.{Answers}
 use Rattle.source_parts.specs.Parts.{text_part, image_part}
-use Rattle.staged_texts.specs.Laws.{SpellsStaged}
 use Rattle.affine_driver.specs.declared.command.Command.{Command}
-use Rattle.affine_driver.specs.declared.command.Command.TheVariants.{Stage}
-use Rattle.affine_driver.specs.declared.command.StageOptions.{StageOptions}
 use Rattle.affine_driver.specs.declared.refusal.Refusal.{Refusal}
-use Rattle.affine_driver.specs.Behaviour.{Limited, OfFirstForm, WithImage, Makes, ComesTo}
-use Rattle.affine_driver.specs.Outcome.{Outcome, Refused, Complete, Writes, Gives, Demands, Answered}
-use Rattle.affine_driver.specs.Output.{IsStageOutput}
+use Rattle.affine_driver.specs.Behaviour.{Limited, WithImage, Makes, ComesTo}
+use Rattle.affine_driver.specs.Outcome.{Outcome, Refused, Writes, Demands, Answered}
 use Rattle.affine_driver.specs.Refusals.{OrMemory, SpellsNoImage, IsNotRead, of_parser, of_rules, of_image, of_lines}
-use Rattle.affine_driver.proofs.Reports.{output_spells}
-
--- a valid module that isn't of the first form with the rules of that form isn't of the first form
-pub not_of_form : FirstFormRules → (m : Module) → IsValid m → plain_fault m ≡ None → ((l : FirstLoop) → IsOfFirstForm m l → IsValidFirst m l → ⊥) → (l : FirstLoop) → IsOfFirstForm m l → ⊥
-not_of_form law m v p none l f = none l f (law m l f v p)
 
 -- ---- The errors of other crates
 
@@ -102,18 +88,3 @@ pub unread : (command : Command) (source text : List ℕ) (refusal : Refusal) �
 unread command source text refusal e (inl m) = inl m
 unread command source text refusal e (inr (inl h)) = inr (inl (refusal, (rw (sym e) h, refl)))
 unread command source text refusal e (inr (inr h)) = inr (inr (h.0, (rw (sym e) h.1.0, inl (refusal, (h.1.1, refl)))))
-
--- what is staged spells a module that runs as the text's does
-pub staged : (options : StageOptions) (text behind : List ℕ) (input : Module) → length text ≤ 4194304 → Spells text input → (outcome : Outcome) → Limited input (OfFirstForm input (Gives (IsStageOutput input))) outcome
-    → Makes (Stage options) input behind outcome
-staged options text behind input short s outcome (inl h) = inl h
-staged options text behind input short s outcome (inr h) = inr (h.0, (h.1.0, formed outcome h.1.1))
-  where
-    given : (outcome : Outcome) → Gives (IsStageOutput input) outcome → Gives (λ output. IsStageOutput input output × SpellsStaged input output) outcome
-    given (Refused refusal) k = absurd k
-    given Complete k = tt
-    given (Writes output) k = (k, output_spells text output input (omega (arith, short)) s k)
-
-    formed : (outcome : Outcome) → OfFirstForm input (Gives (IsStageOutput input)) outcome → OfFirstForm input (Gives (λ output. IsStageOutput input output × SpellsStaged input output)) outcome
-    formed outcome (inl k) = inl k
-    formed outcome (inr k) = inr (k.0, (k.1.0, given outcome k.1.1))

@@ -11,19 +11,17 @@ use Rattle.bus_model.specs.declared.step.Verdict.TheVariants as verdict
 use Rattle.direct_meaning.specs.Direct.{plain, verdict_of}
 use Rattle.direct_meaning.specs.Work.{work}
 use Rattle.prompt_semantics.specs.Prompt.{prompt_verdict}
-use Rattle.first_path.specs.declared.stage.Staged.{Staged}
-use Rattle.first_path.specs.Form.{IsOfFirstForm}
-use Rattle.first_path.specs.Law.{IsStagedBy}
 use Rattle.mem_image.specs.Images as image
 use Rattle.module_regions.specs.Lines.{regions_text}
 use Rattle.source_parts.specs.Parts.{text_part, image_part}
-use Rattle.staged_texts.specs.Laws.{SpellsStaged}
+use Rattle.stage_laws.specs.Law.{IsStageOf}
 use Rattle.affine_driver.specs.declared.command.Command.{Command}
 use Rattle.affine_driver.specs.declared.command.Command.TheVariants.{Check, Regions, Stage, Plain, Run, Order, Both}
+use Rattle.affine_driver.specs.declared.command.StageOptions.{StageOptions}
 use Rattle.affine_driver.specs.declared.refusal.Refusal.{Refusal}
 use Rattle.affine_driver.specs.Outcome.{Outcome, Refused, Complete, Writes, Demands, Gives}
-use Rattle.affine_driver.specs.Output.{IsStageOutput, IsPlainOutput, IsRunOutput, IsBothOutput, IsOrderOutput, prompted}
-use Rattle.affine_driver.specs.Refusals.{SpellsNone, BreaksRule, BreaksLimits, IsOtherForm, SpellsNoImage, work_limit, IsTooMuch, StopsAt}
+use Rattle.affine_driver.specs.Output.{planning, prompted, IsStageOutput, IsPlainOutput, IsRunOutput, IsBothOutput, IsOrderOutput}
+use Rattle.affine_driver.specs.Refusals.{SpellsNone, BreaksRule, BreaksLimits, SpellsNoImage, work_limit, IsTooMuch, StopsAt}
 
 -- ---- Demands
 
@@ -35,13 +33,9 @@ Read text Behind = Demands (SpellsNone text) (grammar.Spells text) (λ input. De
 abbrev pub Limited : Module → (Outcome → Type 0) → Outcome → Type 0
 Limited input Behind = Demands (BreaksLimits input) (λ (holds : Unit {0}). plain_fault input ≡ None) (λ holds. Behind)
 
--- a module of the first form
-abbrev pub OfFirstForm : Module → (Outcome → Type 0) → Outcome → Type 0
-OfFirstForm input Behind = Demands (IsOtherForm input) (IsOfFirstForm input) (λ looped. Behind)
-
--- a module of the first form, with what is staged of it
-abbrev pub StagedFrom : Module → (Staged → Outcome → Type 0) → Outcome → Type 0
-StagedFrom input Behind = Demands (IsOtherForm input) (IsStagedBy input) Behind
+-- the stage of the module, by these options, which there always is
+abbrev pub StagedFrom : StageOptions → Module → (Module → Outcome → Type 0) → Outcome → Type 0
+StagedFrom options input Behind = Demands (λ refusal. ⊥) (IsStageOf (planning options) input) Behind
 
 -- the module's work is within the limit, and a run of this verdict comes to its end
 abbrev pub EndsWithin : Module → Verdict → (Outcome → Type 0) → Outcome → Type 0
@@ -62,19 +56,19 @@ RunsToEnd input text run Behind = WithImage input text (λ memory. EndsWithin in
 
 -- What a command makes of a valid module and the text of an image, one line a command: what it demands beyond the rules V1 to V12, in the
 -- order in which it is asked for, and what it writes. `check` writes the module's printed spelling, `regions` the lines of its regions,
--- `stage` its output, which spells a valid module that runs as the module does, `plain` the printed image of the memory that the direct
+-- `stage` the report of its plan and the printed spelling of its stage, `plain` the printed image of the memory that the direct
 -- meaning leaves, `run` that of the memory that the prompt meaning leaves, `order` the same with the trace and the number of steps of the
 -- run that the pick names. `both` writes what `stage` does and then, behind a line `---`, what `plain` does: it is the staged module that
 -- is run, within the limit of work.
 abbrev pub Makes : Command → Module → List ℕ → Outcome → Type 0
 Makes Check input text outcome = Gives (λ output. output ≡ spelling input) outcome
 Makes (Regions options) input text outcome = Limited input (Gives (λ output. output ≡ regions_text input options.depth)) outcome
-Makes (Stage options) input text outcome = Limited input (OfFirstForm input (Gives (λ output. IsStageOutput input output × SpellsStaged input output))) outcome
+Makes (Stage options) input text outcome = Limited input (Gives (IsStageOutput options input)) outcome
 Makes Plain input text outcome = Limited input (RunsToEnd input text (λ memory. verdict_of (plain input memory)) (λ memory. Gives (IsPlainOutput input memory))) outcome
 Makes (Run options) input text outcome = RunsToEnd input text (λ memory. prompt_verdict (prompted options input memory)) (λ memory. Gives (IsRunOutput input options memory)) outcome
 Makes (Order options) input text outcome = RunsToEnd input text (λ memory. prompt_verdict (prompted options.run input memory)) (λ memory. Gives (IsOrderOutput input options memory)) outcome
 Makes (Both options) input text outcome =
-    Limited input (StagedFrom input (λ staged. WithImage input text (λ memory. EndsWithin staged.module (verdict_of (plain input memory)) (Gives (IsBothOutput input memory))))) outcome
+    Limited input (StagedFrom options.stage input (λ staged. WithImage input text (λ memory. EndsWithin staged (verdict_of (plain input memory)) (Gives (IsBothOutput options.stage input memory))))) outcome
 Makes unbuilt input text outcome = ⊥
 
 -- what a source comes to under a command: its text spells a valid module, of which, with its image, the command makes this

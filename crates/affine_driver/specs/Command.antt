@@ -47,10 +47,17 @@ takes_threads other = false
 abbrev pub runs_threads : Command → Bool
 runs_threads command = takes_threads (word_of command)
 
--- the program has this command, and its options lie in their ranges
+-- whether the command asks for doubled loops
+abbrev pub asks_doubled : Command → Bool
+asks_doubled (command.Stage options) = options.double
+asks_doubled (command.Both options) = options.stage.double
+asks_doubled other = false
+
+-- the program has this command, its options lie in their ranges, and no loops are doubled, which isn't built
 pub record IsAllowed (command : Command) : Type 0 where
   pub built : is_there (standing_of (word_of command)) ≡ true
   pub fit : AllFit (options_of (word_of command)) (values_of command)
+  pub single : asks_doubled command ≡ false
 
 -- ---- How the words are read. Nobody has to believe what follows: no clause of the top call speaks of it.
 

@@ -4,7 +4,7 @@ use Rattle.std.specs.Fmt.{decimal}
 use Rattle.bus_model.specs.declared.step.FaultKind.{FaultKind}
 use Rattle.bus_model.specs.declared.step.FaultKind.TheVariants.{Bounds, Divide, Touched, Race, Tag, Capacity, Shape}
 use Rattle.affine_driver.specs.declared.ending.Ending.{Ending}
-use Rattle.affine_driver.specs.declared.ending.Ending.TheVariants.{Done, Words, ReadFault, TooLong, Text, Invalid, Image, Fault, Unbuilt, WriteFault, Memory, Turns}
+use Rattle.affine_driver.specs.declared.ending.Ending.TheVariants.{Done, Words, ReadFault, TooLong, Text, Invalid, Image, Fault, WriteFault, Memory, Turns}
 
 abbrev pub status_of : Ending → ℕ
 status_of Done = 0
@@ -18,7 +18,6 @@ status_of (Fault kind) = 7
 status_of WriteFault = 8
 status_of Memory = 9
 status_of (Turns work) = 10
-status_of Unbuilt = 11
 
 -- a fault's name
 abbrev pub fault_name : FaultKind → List ℕ
@@ -41,6 +40,5 @@ message_of (Invalid line rule) = codes "affine: invalid line " ++ (decimal line 
 message_of (Image line rule) = codes "affine: image line " ++ (decimal line ++ (codes " rule I" ++ decimal rule))
 message_of (Fault kind) = codes "affine: fault " ++ fault_name kind
 message_of (Turns work) = codes "affine: turns " ++ decimal work
-message_of Unbuilt = codes "affine: not built"
 message_of WriteFault = codes "affine: write fault"
 message_of Memory = codes "affine: out of memory"

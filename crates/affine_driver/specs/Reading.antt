@@ -30,7 +30,6 @@ moment_of (end.Text line column) = Refusing (refusal.Text line column)
 moment_of (end.Invalid line rule) = Refusing (refusal.Invalid line rule)
 moment_of (end.Image line rule) = Refusing (refusal.Image line rule)
 moment_of (end.Fault kind) = Refusing (refusal.Fault kind)
-moment_of end.Unbuilt = Refusing refusal.Unbuilt
 moment_of end.WriteFault = Cut
 moment_of end.Memory = Wanting
 moment_of (end.Turns count) = Refusing (refusal.Turns count)

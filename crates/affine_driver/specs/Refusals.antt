@@ -12,8 +12,6 @@ use Rattle.bus_model.specs.declared.step.Verdict.{Verdict}
 use Rattle.bus_model.specs.declared.step.FaultKind.{FaultKind}
 use Rattle.bus_model.specs.declared.step.Verdict.TheVariants as verdict
 use Rattle.direct_meaning.specs.Work.{work}
-use Rattle.copy_emit.specs.Template.{FirstLoop}
-use Rattle.first_path.specs.Form.{IsOfFirstForm}
 use Rattle.mem_image.specs.declared.parse.ImageFault.{ImageFault}
 use Rattle.mem_image.specs.declared.parse.ImageFault.TheVariants as image_fault
 use Rattle.mem_image.specs.Images as image
@@ -22,7 +20,7 @@ use Rattle.module_regions.specs.declared.fault.LinesFault.TheVariants as lines
 use Rattle.affine_driver.specs.declared.ending.Ending.{Ending}
 use Rattle.affine_driver.specs.declared.ending.Ending.TheVariants as ending
 use Rattle.affine_driver.specs.declared.refusal.Refusal.{Refusal}
-use Rattle.affine_driver.specs.declared.refusal.Refusal.TheVariants.{Text, Invalid, Image, Turns, Fault, Unbuilt, Memory}
+use Rattle.affine_driver.specs.declared.refusal.Refusal.TheVariants.{Text, Invalid, Image, Turns, Fault, Memory}
 
 -- the ending at which a call refuses the source so
 abbrev pub ending_of : Refusal → Ending
@@ -31,7 +29,6 @@ ending_of (Invalid line rule) = ending.Invalid line rule
 ending_of (Image line rule) = ending.Image line rule
 ending_of (Turns count) = ending.Turns count
 ending_of (Fault kind) = ending.Fault kind
-ending_of Unbuilt = ending.Unbuilt
 ending_of Memory = ending.Memory
 
 -- ---- Each refusal and its reason
@@ -51,10 +48,6 @@ IsNotRead text refusal = SpellsNone text refusal ⊎ ((input : Module) × (gramm
 -- the module breaks V13, first at this line
 abbrev pub BreaksLimits : Module → Refusal → Type 0
 BreaksLimits input refusal = (line : ℕ) × ((plain_fault input ≡ Some line) × (refusal ≡ Invalid line 13))
-
--- the module isn't of the first form, so it isn't staged
-abbrev pub IsOtherForm : Module → Refusal → Type 0
-IsOtherForm input refusal = ((l : FirstLoop) → IsOfFirstForm input l → ⊥) × (refusal ≡ Unbuilt)
 
 -- the text spells no image of the module, and this is the first line that breaks a rule, with the lowest that it breaks
 abbrev pub SpellsNoImage : List ℕ → Module → Refusal → Type 0

@@ -97,14 +97,14 @@ pub record IsAsWritten : Type 0 where
   pub order_pick : ORDER_PICK ≡ Built
   pub both_filler : BOTH_FILLER ≡ Built
   pub both_engines : BOTH_ENGINES ≡ Built
-  pub stage_depth : STAGE_DEPTH ≡ Unbuilt
-  pub stage_dma : STAGE_DMA ≡ Unbuilt
+  pub stage_depth : STAGE_DEPTH ≡ Built
+  pub stage_dma : STAGE_DMA ≡ Built
+  pub stage_capacity : STAGE_CAPACITY ≡ Built
+  pub both_depth : BOTH_DEPTH ≡ Built
+  pub both_dma : BOTH_DMA ≡ Built
+  pub both_capacity : BOTH_CAPACITY ≡ Built
   pub stage_double : STAGE_DOUBLE ≡ Unbuilt
   pub stage_buffers : STAGE_BUFFERS ≡ Unbuilt
-  pub stage_capacity : STAGE_CAPACITY ≡ Unbuilt
-  pub both_depth : BOTH_DEPTH ≡ Unbuilt
-  pub both_dma : BOTH_DMA ≡ Unbuilt
   pub both_double : BOTH_DOUBLE ≡ Unbuilt
   pub both_buffers : BOTH_BUFFERS ≡ Unbuilt
-  pub both_capacity : BOTH_CAPACITY ≡ Unbuilt
   pub source : SOURCE_LIMIT ≡ 4194304

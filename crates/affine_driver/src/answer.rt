@@ -14,7 +14,7 @@ use crate::order::order_output;
 use crate::plain::plain_output;
 use crate::refusal::Refusal;
 use crate::regions::regions_output;
-use crate::stage::staged;
+use crate::stage::stage_output;
 use affine_ast::Verified;
 use affine_print::print;
 use affine_text::parse;
@@ -42,7 +42,7 @@ fn checked(alloc: Global, verified: &Verified) -> Result<Vec<u8>, Refusal>
 }
 
 /// What a command that runs no threads writes of a source, or the refusal that it comes to.
-#[tactic(auto, using(crate::proofs::Refusals::unread))]
+#[tactic(auto, using(crate::proofs::Originals::is_read, crate::proofs::Refusals::unread))]
 pub(crate) fn answer_of(alloc: Global, command: Command, source: &[u8]) -> Result<Vec<u8>, Refusal>
     requires allowed { IsAllowed command }
     requires own { runs_threads command ≡ false }
@@ -53,7 +53,7 @@ pub(crate) fn answer_of(alloc: Global, command: Command, source: &[u8]) -> Resul
     let verified = read(alloc, parts.text)?;
     match command {
         Command::Check => checked(alloc, &verified),
-        Command::Stage(_) => staged(alloc, &verified),
+        Command::Stage(options) => stage_output(alloc, options, &verified),
         Command::Plain => plain_output(alloc, &verified, parts.image),
         Command::Regions(options) => regions_output(alloc, options, &verified),
         Command::Run(_) => unreachable!(),

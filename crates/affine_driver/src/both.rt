@@ -1,36 +1,49 @@
 // The command `both`.
-ghost use Rattle.std.specs.Prelude.{◌≡◌, ◌++◌, ◌≤◌, IfOk, OnOk, codes, length};
+ghost use Rattle.std.specs.Prelude.{◌≡◌, ◌++◌, ◌≤◌, IfOk, OnOk, None, codes, length};
+ghost use Rattle.affine_ast.specs.PlainLimits.{plain_fault};
 ghost use Rattle.direct_meaning.specs.Direct.{plain, state_of, verdict_of};
 ghost use Rattle.direct_meaning.specs.Memory.{Fits};
-ghost use Rattle.first_path.specs.Law.{RunsAs};
 ghost use Rattle.mem_image.specs.Images.{printed};
 ghost use Rattle.run_laws.specs.StaysFitting.{with_slow};
-ghost use Rattle.staged_texts.specs.Laws.{SpellsStaged};
+ghost use Rattle.stage_laws.specs.Law.{IsStageOf};
 ghost use Rattle.affine_driver.specs.declared.command.Command.TheVariants.{Both};
 ghost use Rattle.affine_driver.specs.Behaviour.{EndsWithin, Makes, WithImage};
 ghost use Rattle.affine_driver.specs.Command.{IsAllowed};
 ghost use Rattle.affine_driver.specs.Outcome.{Answered, Gives};
-ghost use Rattle.affine_driver.specs.Output.{IsBothOutput, IsRead, IsStageOutput, IsStaged};
+ghost use Rattle.affine_driver.specs.Output.{planning, running, IsBothOutput, IsRead, IsStageOutput};
 
 use crate::command::{BothOptions, RunOptions};
 use crate::demands::{come_to_end, keep_within, meet_limits, memory_of};
 use crate::limits::SOURCE_LIMIT;
 use crate::refusal::Refusal;
 use crate::run::run_by_threads;
-use crate::stage::{output_of, staged_module};
+use crate::stage::{output_of, staged_by};
 use affine_ast::{Image, Verified};
 use bus_model::Verdict;
 use dma_engine::Gate;
-use first_path::Staged;
 use mem_image::print_image;
+use stage_output::stages_run;
 use std::alloc::{AllocError, Global};
 use std::sync::Wait;
 use std::thread::Threads;
 
-/// The bytes of fast memory with which a staged module runs as its original.
-const FAST_BYTES: u64 = 1_048_576;
+/// What the options of `both` ask of the run of a stage.
+fn running(options: BothOptions) -> RunOptions
+    ensures { result ≡ running options }
+{
+    let BothOptions {
+        stage,
+        filler,
+        engines,
+    } = options;
+    RunOptions {
+        capacity: stage.capacity,
+        filler,
+        engines,
+    }
+}
 
-/// Runs a staged module by threads from a memory of its original.
+/// Runs the stage of a module by threads, within the capacity that it was staged for, from a memory of the module.
 fn run_staged<R: Threads + Wait + Sync, G: Gate + Sync>(
     alloc: Global,
     rt: &R,
@@ -41,31 +54,15 @@ fn run_staged<R: Threads + Wait + Sync, G: Gate + Sync>(
     memory: Image,
 ) -> Result<(Verdict, Image), AllocError>
     requires engines { 1 ≤ options.engines }
+    requires plain { plain_fault original.now.inner ≡ None }
+    requires text { IsRead original.now.inner }
     requires fits { Fits original.now.inner memory }
-    requires arguments { staged.now.inner.args ≡ original.now.inner.args }
-    requires runs { RunsAs original.now.inner staged.now.inner }
+    requires stage { IsStageOf (planning options.stage) original.now.inner staged.now.inner }
     ensures verdict { IfOk result (λ ran. ran.0 ≡ verdict_of (plain original.now.inner memory)) }
     ensures image { IfOk result (λ ran. ran.0 ≡ Verdict.End → ran.1 ≡ with_slow memory (state_of (plain original.now.inner memory)).slow) }
-    ensures fits { IfOk result (λ ran. Fits original.now.inner ran.1) }
 {
-    let options = RunOptions {
-        capacity: FAST_BYTES,
-        filler: options.filler,
-        engines: options.engines,
-    };
-    run_by_threads(alloc, rt, gate, options, staged, memory)
-}
-
-/// Report and staged module.
-#[tactic(auto, using(crate::proofs::Originals::stage_is, crate::proofs::Originals::stage_spells))]
-fn stage_part(alloc: Global, verified: &Verified, staged: &Staged) -> Result<Vec<u8>, AllocError>
-    requires staged { IsStaged verified.now.inner staged.now }
-    requires text { IsRead verified.now.inner }
-    ensures stage { IfOk result (λ stage. IsStageOutput verified.now.inner stage.items) }
-    ensures spells { IfOk result (λ stage. SpellsStaged verified.now.inner stage.items) }
-{
-    let stage = output_of(alloc, staged)?;
-    Ok(stage)
+    stages_run();
+    run_by_threads(alloc, rt, gate, running(options), staged, memory)
 }
 
 /// What stands behind the staged module: a line `---` and the printed image.
@@ -83,50 +80,54 @@ fn put_image(
     out.extend_from_slice(text.as_slice())
 }
 
-/// Report, staged module and the printed image that its run leaves, or why it leaves nothing.
+/// What the run of the staged module leaves of a memory, printed behind report and staged module, or why it leaves nothing.
 fn both_from<R: Threads + Wait + Sync, G: Gate + Sync>(
     alloc: Global,
     rt: &R,
     gate: &G,
     options: BothOptions,
     verified: &Verified,
-    staged: Staged,
+    staged: &Verified,
+    output: Vec<u8>,
     memory: Image,
 ) -> Result<Vec<u8>, Refusal>
     requires engines { 1 ≤ options.engines }
-    requires staged { IsStaged verified.now.inner staged }
+    requires plain { plain_fault verified.now.inner ≡ None }
     requires text { IsRead verified.now.inner }
+    requires stage { IsStageOf (planning options.stage) verified.now.inner staged.now.inner }
+    requires output { IsStageOutput options.stage verified.now.inner output.items }
     requires fits { Fits verified.now.inner memory }
-    ensures { Answered result (λ output. output.items) (EndsWithin staged.«module» (verdict_of (plain verified.now.inner memory)) (Gives (IsBothOutput verified.now.inner memory))) }
+    ensures { Answered result (λ output. output.items) (EndsWithin staged.now.inner (verdict_of (plain verified.now.inner memory)) (Gives (IsBothOutput options.stage verified.now.inner memory))) }
 {
-    let mut output = stage_part(alloc, verified, &staged)?;
-    let Staged { module, .. } = staged;
-    let staged = Verified::seal(module);
-    keep_within(alloc, &staged)?;
-    let (verdict, image) = run_staged(alloc, rt, gate, options, verified, &staged, memory)?;
+    let mut output = output;
+    keep_within(alloc, staged)?;
+    let (verdict, image) = run_staged(alloc, rt, gate, options, verified, staged, memory)?;
     come_to_end(verdict)?;
     put_image(alloc, &mut output, &image, verified)?;
     Ok(output)
 }
 
-/// What `both` writes of a module with what is staged of it, and the initial image that a text spells, or why it writes nothing.
+/// What `both` writes of a module with its stage and their output, and the initial image that a text spells, or why it writes nothing.
 fn both_of<R: Threads + Wait + Sync, G: Gate + Sync>(
     alloc: Global,
     rt: &R,
     gate: &G,
     options: BothOptions,
     verified: &Verified,
-    staged: Staged,
+    staged: &Verified,
+    output: Vec<u8>,
     text: &[u8],
 ) -> Result<Vec<u8>, Refusal>
     requires engines { 1 ≤ options.engines }
-    requires staged { IsStaged verified.now.inner staged }
-    requires text { IsRead verified.now.inner }
+    requires plain { plain_fault verified.now.inner ≡ None }
+    requires read { IsRead verified.now.inner }
+    requires stage { IsStageOf (planning options.stage) verified.now.inner staged.now.inner }
+    requires output { IsStageOutput options.stage verified.now.inner output.items }
     requires short { length text.now ≤ SOURCE_LIMIT }
-    ensures { Answered result (λ output. output.items) (WithImage verified.now.inner text.now (λ memory. EndsWithin staged.«module» (verdict_of (plain verified.now.inner memory)) (Gives (IsBothOutput verified.now.inner memory)))) }
+    ensures { Answered result (λ output. output.items) (WithImage verified.now.inner text.now (λ memory. EndsWithin staged.now.inner (verdict_of (plain verified.now.inner memory)) (Gives (IsBothOutput options.stage verified.now.inner memory)))) }
 {
     let memory = memory_of(alloc, verified, text)?;
-    both_from(alloc, rt, gate, options, verified, staged, memory)
+    both_from(alloc, rt, gate, options, verified, staged, output, memory)
 }
 
 /// What `both` writes of a valid module and the initial image that a text spells, or why it writes nothing.
@@ -144,6 +145,7 @@ pub(crate) fn both_output<R: Threads + Wait + Sync, G: Gate + Sync>(
     ensures { Answered result (λ output. output.items) (Makes (Both options) verified.now.inner text.now) }
 {
     meet_limits(verified)?;
-    let staged = staged_module(alloc, verified)?;
-    both_of(alloc, rt, gate, options, verified, staged, text)
+    let (plan, staged) = staged_by(alloc, options.stage, verified)?;
+    let output = output_of(alloc, options.stage, verified, &plan, &staged)?;
+    both_of(alloc, rt, gate, options, verified, &staged, output, text)
 }

@@ -27,8 +27,6 @@ pub enum Ending {
     Image { line: u32, rule: u8 },
     /// The run stopped at a fault.
     Fault(FaultKind),
-    /// The module isn't of the first form.
-    Unbuilt,
     /// The sink failed; what it took is a prefix of the output.
     WriteFault,
     /// Memory ran out.
@@ -69,7 +67,6 @@ impl Ending {
             Ending::WriteFault => 8,
             Ending::Memory => 9,
             Ending::Turns { .. } => 10,
-            Ending::Unbuilt => 11,
         }
     }
 }
@@ -90,7 +87,6 @@ impl fmt::Display for Ending {
                 let name = name_of(*kind);
                 write!(f, "affine: fault {name}")
             }
-            Ending::Unbuilt => write!(f, "affine: not built"),
             Ending::WriteFault => write!(f, "affine: write fault"),
             Ending::Memory => write!(f, "affine: out of memory"),
             Ending::Turns { work } => write!(f, "affine: turns {work}"),

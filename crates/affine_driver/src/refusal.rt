@@ -17,7 +17,6 @@ pub enum Refusal {
     Image { line: u32, rule: u8 },
     Turns { work: u128 },
     Fault(FaultKind),
-    Unbuilt,
     Memory,
 }
 
@@ -33,7 +32,6 @@ impl From<Refusal> for Ending {
             Refusal::Image { line, rule } => Ending::Image { line, rule },
             Refusal::Turns { work } => Ending::Turns { work },
             Refusal::Fault(kind) => Ending::Fault(kind),
-            Refusal::Unbuilt => Ending::Unbuilt,
             Refusal::Memory => Ending::Memory,
         }
     }

@@ -1,84 +1,97 @@
-// The command `stage`, and the staged module for others.
-ghost use Rattle.std.specs.Prelude.{◌≡◌, ◌++◌, None, IfOk, IfSome, IfNone, MatchResult};
+// The command `stage`, and the stage of a module for others.
+ghost use Rattle.std.specs.Prelude.{◌≡◌, None, false, IfOk};
 ghost use Rattle.affine_ast.specs.PlainLimits.{plain_fault};
 ghost use Rattle.affine_ast.specs.Spelling.{spelling};
-ghost use Rattle.affine_ast.specs.Validity.{IsValid};
-ghost use Rattle.copy_emit.specs.Template.{FirstLoop};
-ghost use Rattle.first_path.specs.Form.{IsOfFirstForm};
-ghost use Rattle.affine_driver.specs.Behaviour.{Limited, OfFirstForm};
+ghost use Rattle.affine_driver.specs.declared.command.Command.TheVariants.{Stage};
+ghost use Rattle.affine_driver.specs.Behaviour.{Limited};
+ghost use Rattle.affine_driver.specs.Command.{IsAllowed};
 ghost use Rattle.affine_driver.specs.Outcome.{Answered, Gives};
-ghost use Rattle.affine_driver.specs.Output.{report, IsStageOutput, IsStaged};
-ghost use Rattle.affine_driver.specs.Refusals.{IsOtherForm, OrMemory};
+ghost use Rattle.affine_driver.specs.Output.{planning, IsRead, IsStageOutput};
+ghost use Rattle.plan_laws.specs.Plan as plans;
+ghost use Rattle.plan_report.specs.Report.{report};
+ghost use Rattle.stage_laws.specs.Law.{IsStageOf};
 
+use crate::command::StageOptions;
 use crate::demands::meet_limits;
 use crate::refusal::Refusal;
-use crate::report::put_report;
-use affine_ast::{Module, Verified};
+use affine_ast::Verified;
 use affine_print::print;
-use first_path::{Staged, stage_first};
-use first_rules::first_form_rules;
-use staged_rules::staged_is_valid;
+use copy_place::plan;
+use module_stages::stage_module;
+use nest_domain::{Options, Plan};
+use plan_amounts::plans_are_reportable;
+use plan_report::report;
 use std::alloc::{AllocError, Global};
 
-/// Report and printed spelling of a staged module.
-pub(crate) fn output_of(alloc: Global, staged: &Staged) -> Result<Vec<u8>, AllocError>
-    ensures { IfOk result (λ output. output.items ≡ report staged.now.line staged.now.placements ++ spelling staged.now.«module») }
+/// What the options of `stage` ask of a plan.
+fn planning(options: StageOptions) -> Options
+    ensures { result ≡ planning options }
 {
-    let mut out = Vec::new(alloc);
-    put_report(alloc, &mut out, staged.line, staged.placements.as_slice())?;
-    let printed = print(alloc, &staged.module)?;
-    out.extend_from_slice(printed.as_slice())?;
-    Ok(out)
-}
-
-/// The staged module, exactly where the valid module is of the first form.
-#[tactic(auto, using(crate::proofs::Refusals::not_of_form))]
-fn first_module(alloc: Global, module: &Module) -> Result<Option<Staged>, AllocError>
-    requires valid { IsValid «module».now }
-    requires plain { plain_fault «module».now ≡ None }
-    ensures staged { IfOk result (λ found. IfSome found (λ staged. IsStaged «module».now staged)) }
-    ensures other { IfOk result (λ found. IfNone found ((l : FirstLoop) → IsOfFirstForm «module».now l → ⊥)) }
-{
-    first_form_rules();
-    let Some(staged) = stage_first(alloc, module)? else {
-        return Ok(None);
-    };
-    staged_is_valid();
-    Ok(Some(staged))
-}
-
-/// The staged module of a valid module that meets V13, or that there is none.
-pub(crate) fn staged_module(alloc: Global, verified: &Verified) -> Result<Staged, Refusal>
-    requires plain { plain_fault verified.now.inner ≡ None }
-    ensures { MatchResult result (λ staged. IsStaged verified.now.inner staged) (λ refusal. OrMemory (IsOtherForm verified.now.inner) refusal) }
-{
-    match first_module(alloc, verified.module())? {
-        Some(staged) => Ok(staged),
-        None => Err(Refusal::Unbuilt),
+    let StageOptions {
+        depth,
+        dma,
+        double,
+        buffers,
+        capacity,
+    } = options;
+    Options {
+        depth,
+        dma,
+        double,
+        capacity,
+        buffers,
     }
 }
 
-/// Report and staged module, exactly where the valid module is of the first form.
-fn stage_output(alloc: Global, module: &Module) -> Result<Option<Vec<u8>>, AllocError>
-    requires valid { IsValid «module».now }
-    requires plain { plain_fault «module».now ≡ None }
-    ensures output { IfOk result (λ found. IfSome found (λ output. IsStageOutput «module».now output.items)) }
-    ensures other { IfOk result (λ found. IfNone found ((l : FirstLoop) → IsOfFirstForm «module».now l → ⊥)) }
+/// The plan of a module that meets V13, and its stage.
+pub(crate) fn staged_by(
+    alloc: Global,
+    options: StageOptions,
+    verified: &Verified,
+) -> Result<(Plan, Verified), AllocError>
+    requires plain { plain_fault verified.now.inner ≡ None }
+    requires single { options.double ≡ false }
+    requires text { IsRead verified.now.inner }
+    ensures plan { IfOk result (λ made. made.0.decisions.items ≡ plans.plan (planning options) verified.now.inner) }
+    ensures stage { IfOk result (λ made. IsStageOf (planning options) verified.now.inner made.1.inner) }
 {
-    let Some(staged) = first_module(alloc, module)? else {
-        return Ok(None);
-    };
-    let output = output_of(alloc, &staged)?;
-    Ok(Some(output))
+    let plan = plan(alloc, verified, &planning(options))?;
+    let staged = stage_module(alloc, verified, &plan, options.dma)?;
+    Ok((plan, staged))
+}
+
+/// Report and printed spelling of a module's stage.
+#[tactic(auto, using(crate::proofs::Originals::stage_is, crate::proofs::Originals::reportable_plan))]
+pub(crate) fn output_of(
+    alloc: Global,
+    options: StageOptions,
+    verified: &Verified,
+    planned: &Plan,
+    staged: &Verified,
+) -> Result<Vec<u8>, AllocError>
+    requires plan { planned.now.decisions.items ≡ plans.plan (planning options) verified.now.inner }
+    requires stage { IsStageOf (planning options) verified.now.inner staged.now.inner }
+    ensures { IfOk result (λ output. IsStageOutput options verified.now.inner output.items) }
+{
+    plans_are_reportable();
+    let mut output = report(alloc, planned, verified.module())?;
+    let printed = print(alloc, staged.module())?;
+    output.extend_from_slice(printed.as_slice())?;
+    Ok(output)
 }
 
 /// What `stage` writes of a valid module, or why it writes nothing.
-pub(crate) fn staged(alloc: Global, verified: &Verified) -> Result<Vec<u8>, Refusal>
-    ensures { Answered result (λ output. output.items) (Limited verified.now.inner (OfFirstForm verified.now.inner (Gives (IsStageOutput verified.now.inner)))) }
+pub(crate) fn stage_output(
+    alloc: Global,
+    options: StageOptions,
+    verified: &Verified,
+) -> Result<Vec<u8>, Refusal>
+    requires allowed { IsAllowed (Stage options) }
+    requires text { IsRead verified.now.inner }
+    ensures { Answered result (λ output. output.items) (Limited verified.now.inner (Gives (IsStageOutput options verified.now.inner))) }
 {
     meet_limits(verified)?;
-    match stage_output(alloc, verified.module())? {
-        Some(output) => Ok(output),
-        None => Err(Refusal::Unbuilt),
-    }
+    let (plan, staged) = staged_by(alloc, options, verified)?;
+    let output = output_of(alloc, options, verified, &plan, &staged)?;
+    Ok(output)
 }

@@ -13,15 +13,15 @@ pub const REGIONS_DEPTH: Standing = Built;
 
 pub const STAGE: Standing = Built;
 
-pub const STAGE_DEPTH: Standing = Unbuilt;
+pub const STAGE_DEPTH: Standing = Built;
 
-pub const STAGE_DMA: Standing = Unbuilt;
+pub const STAGE_DMA: Standing = Built;
 
 pub const STAGE_DOUBLE: Standing = Unbuilt;
 
 pub const STAGE_BUFFERS: Standing = Unbuilt;
 
-pub const STAGE_CAPACITY: Standing = Unbuilt;
+pub const STAGE_CAPACITY: Standing = Built;
 
 pub const PLAIN: Standing = Built;
 
@@ -45,15 +45,15 @@ pub const ORDER_PICK: Standing = Built;
 
 pub const BOTH: Standing = Built;
 
-pub const BOTH_DEPTH: Standing = Unbuilt;
+pub const BOTH_DEPTH: Standing = Built;
 
-pub const BOTH_DMA: Standing = Unbuilt;
+pub const BOTH_DMA: Standing = Built;
 
 pub const BOTH_DOUBLE: Standing = Unbuilt;
 
 pub const BOTH_BUFFERS: Standing = Unbuilt;
 
-pub const BOTH_CAPACITY: Standing = Unbuilt;
+pub const BOTH_CAPACITY: Standing = Built;
 
 pub const BOTH_FILLER: Standing = Built;
 

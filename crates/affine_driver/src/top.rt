@@ -2,19 +2,22 @@
 ghost use Rattle.std.specs.Prelude.{◌≡◌, ◌↔◌, ◌≤◌, true, false, map};
 ghost use Rattle.affine_io.specs.Faults.{Rose};
 ghost use Rattle.affine_driver.specs.declared.command.Command.{Command};
+ghost use Rattle.affine_driver.specs.declared.command.Command.TheVariants.{Stage};
+ghost use Rattle.affine_driver.specs.declared.command.StageOptions.{StageOptions};
 ghost use Rattle.affine_driver.specs.Command.{AsksFor, runs_threads};
-ghost use Rattle.affine_driver.specs.Headline.{AskForNone, AskForNothing, Decides};
+ghost use Rattle.affine_driver.specs.Headline.{AskForNone, AskForNothing, Decides, StagesRightly};
 ghost use Rattle.affine_driver.specs.Reading.{ComesBeforeWriting};
 
 use crate::answer::answer_of;
 use crate::command::ask_for_threads;
 use crate::ending::Ending;
-use crate::laws::endings_are_exact;
+use crate::laws::{endings_are_exact, staged_texts_run};
 use crate::limits::SOURCE_LIMIT;
 use crate::streams::{begin, finish};
 use crate::threads::answer_by_threads;
 use affine_io::{Sink, Source};
 use dma_engine::Gate;
+use stage_reports::plan_is_complete;
 use std::alloc::Global;
 use std::sync::Wait;
 use std::thread::Threads;
@@ -33,6 +36,7 @@ pub fn stage_main<S: Source, K: Sink>(
     ensures unasked { AskForNone false (map (λ word. word.now) words.entry.now) → source.new ≡ source.old }
 
     ensures answers { (command : Command) → AsksFor (map (λ word. word.now) words.entry.now) command → runs_threads command ≡ false → Decides SOURCE_LIMIT command result (S.left source.old) (S.left source.new) (K.contents sink.old) (K.contents sink.new) }
+    ensures headline { (options : StageOptions) → AsksFor (map (λ word. word.now) words.entry.now) (Stage options) → result ≡ Ending.Done → StagesRightly options (S.left source.old) (S.left source.new) (K.contents sink.old) (K.contents sink.new) }
     ensures read_fault { result ≡ Ending.ReadFault → Rose (S.faults source.old) (S.faults source.new) }
     ensures later { S.faults source.old ≤ S.faults source.new }
 
@@ -40,6 +44,8 @@ pub fn stage_main<S: Source, K: Sink>(
     ensures write_fault { result ≡ Ending.WriteFault → Rose (K.faults sink.old) (K.faults sink.new) }
 {
     endings_are_exact();
+    staged_texts_run();
+    plan_is_complete();
     let begun = match begin(alloc, words, false, source) {
         Ok(begun) => begun,
         Err(ending) => return ending,
@@ -96,6 +102,7 @@ pub fn affine_main<R: Threads + Wait + Sync, S: Source, K: Sink, G: Gate + Sync>
     ensures unasked { AskForNothing (map (λ word. word.now) words.entry.now) → source.new ≡ source.old }
 
     ensures answers { (command : Command) → AsksFor (map (λ word. word.now) words.entry.now) command → Decides SOURCE_LIMIT command result (S.left source.old) (S.left source.new) (K.contents sink.old) (K.contents sink.new) }
+    ensures headline { (options : StageOptions) → AsksFor (map (λ word. word.now) words.entry.now) (Stage options) → result ≡ Ending.Done → StagesRightly options (S.left source.old) (S.left source.new) (K.contents sink.old) (K.contents sink.new) }
     ensures read_fault { result ≡ Ending.ReadFault → Rose (S.faults source.old) (S.faults source.new) }
     ensures later { S.faults source.old ≤ S.faults source.new }
 

@@ -1,26 +1,32 @@
-//! Staged modules with copy loops: what the template makes of a loop and of the memrefs that are copied to fast memory
-//! round it, and the law that the staged module does what the module does.
+//! A module with the placements of its plan, by copy loops; and the numbers of the names that templates make.
 //!
-//! The crate stands on the meanings of `direct_meaning` and `prompt_semantics`.
+//! `plan_theorem` and `numbered_names`, `specs/`, say which modules these are.
 #![tactic(auto)]
 
-ghost use Rattle.copy_emit.specs.FirstPlan.{FirstPlanAgrees, PrintedPlanAgrees};
-ghost use Rattle.copy_emit.specs.Law.{StagingAgrees};
+ghost use Rattle.std.specs.Prelude.{◌≡◌, false, IfOk, None};
+ghost use Rattle.affine_ast.specs.PlainLimits.{plain_fault};
+ghost use Rattle.nest_domain.specs.declared.plan.Options.{Options as TheOptions};
+ghost use Rattle.plan_laws.specs.Plan as plans;
+ghost use Rattle.plan_staging.specs.Decided.{IsPlanFor};
+ghost use Rattle.plan_theorem.specs.Law.{IsWritten, IsStagedModule};
 
-/// From every memory that fits a module of the first form, for every filler, the staged module has at a capacity of
-/// 1,048,576 bytes the verdict of the module itself, and at the end its slow memory.
-pub fn staging_agrees()
-    ensures { StagingAgrees }
-{}
+use affine_ast::Verified;
+use nest_domain::Plan;
+pub use number_names::number_names;
+use plan_staging::staged_by;
+use std::alloc::{AllocError, Global};
 
-/// The same for the plan of the first form, which stages the window of each memref of the loop in the order of first accesses, and none where the loop has no turn, and for
-/// its numbered names.
-pub fn first_plan_agrees()
-    ensures { FirstPlanAgrees }
-{}
-
-/// The same for the module that the printed text spells, whose names aren't made, where no name of the input begins as
-/// they do.
-pub fn printed_plan_agrees()
-    ensures { PrintedPlanAgrees }
-{}
+/// The module with the placements of its plan: loops copy each box in before the placement's loop and out behind it.
+///
+/// # Errors
+///
+/// `AllocError`, for want of memory, and where a redirected access would have more than 2^32 - 1 operands.
+pub fn stage_loops(alloc: Global, module: &Verified, plan: &Plan) -> Result<Verified, AllocError>
+    requires plain { plain_fault «module».now.inner ≡ None }
+    requires written { IsWritten «module».now.inner }
+    requires plan { IsPlanFor false «module».now.inner plan.now.decisions.items }
+    ensures staged { (o : TheOptions) → o.dma ≡ false → plan.now.decisions.items ≡ plans.plan o «module».now.inner → IfOk result (λ made. IsStagedModule o «module».now.inner made.inner) }
+    ensures name { IfOk result (λ made. made.inner.name ≡ «module».now.inner.name) }
+{
+    staged_by(alloc, module, plan, false)
+}

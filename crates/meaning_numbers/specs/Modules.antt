@@ -17,7 +17,6 @@ use Rattle.affine_ast.specs.declared.types.MemrefType.{MemrefType}
 use Rattle.affine_ast.specs.declared.types.Scalar.TheVariants as scalar
 use Rattle.affine_ast.specs.declared.stmt.Stmt.{Stmt}
 use Rattle.affine_ast.specs.declared.stmt.What.{What, For, If, Load, Store, Constant, Binary, Alloc, Dealloc, Start, Wait, Return}
-use Rattle.copy_emit.specs.Template.{FirstLoop}
 use Rattle.int_ops.specs.declared.operation.Op.{Op}
 use Rattle.int_ops.specs.declared.operation.Op.TheVariants as op
 
@@ -219,26 +218,14 @@ deep = record {
     round : Name → List Stmt → What
     round v body = For v (Int (pos 0)) (Int (pos 65536)) (pos 1) body
 
--- the loop of `raise`
-abbrev pub raise_loop : ℤ → FirstLoop
-raise_loop high = record {
-  line = 0;
-  var = i;
-  low = pos 0;
-  high = high;
-  return_line = 0;
-  body =
-      load_a ∷ one_more ∷ add_one ∷ store_b ∷ [];
-}
-
--- the template's names
+-- the names of copies
 abbrev pub copy : List ℕ → Name
 copy digits = named (codes "copy" ++ digits)
 
 abbrev pub half : Name → Access
 half v = record { map = record { dims = 1; syms = 0; results = Const (pos 0) ∷ Dim 0 ∷ [] }; operands = v ∷ [] }
 
--- what the staged `raise` is written as, statement by statement
+-- `raise` with its memrefs copied into fast memory round the loop
 abbrev pub staged_raise : List Stmt
 staged_raise =
     stmt (Alloc (copy (codes "0")) (fast (1 ∷ 8 ∷ []) I32))
@@ -261,10 +248,7 @@ staged_raise =
     ∷ stmt (Dealloc (copy (codes "0")) (fast (1 ∷ 8 ∷ []) I32))
     ∷ stmt Return ∷ []
 
--- the loop from 2 up to 5 alone
-abbrev pub part_loop : FirstLoop
-part_loop = record (raise_loop (pos 5)) { low = pos 2 }
-
+-- the turns from 2 up to 5 alone
 abbrev pub raise_part : Module
 raise_part = record (raise (pos 5)) { body = stmt (For i (Int (pos 2)) (Int (pos 5)) (pos 1) (load_a ∷ one_more ∷ add_one ∷ store_b ∷ [])) ∷ stmt Return ∷ [] }
 
@@ -275,7 +259,7 @@ two_behind v = at (Add (Dim 0) (Const (pos 2))) v
 abbrev pub half_before : Name → Access
 half_before v = record { map = record { dims = 1; syms = 0; results = Const (pos 0) ∷ Sub (Dim 0) (Const (pos 2)) ∷ [] }; operands = v ∷ [] }
 
--- its staged text: a window of three elements from place 2 on
+-- the same with copies of three elements from place 2 on
 abbrev pub staged_part : List Stmt
 staged_part =
     stmt (Alloc (copy (codes "0")) (fast (1 ∷ 3 ∷ []) I32))

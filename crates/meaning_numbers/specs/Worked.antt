@@ -1,5 +1,5 @@
 -- Worked numbers, as statements.
-use Rattle.std.specs.Prelude.{◌≡◌, ℕ, ◌++◌, ℤ, pos, negsuc, false, List, [], ◌∷◌}
+use Rattle.std.specs.Prelude.{◌≡◌, ◌++◌, ℤ, pos, negsuc, List, [], ◌∷◌}
 use Rattle.affine_expr.specs.declared.expr.Expr.{Dim, Const, FloorDiv, CeilDiv, Mod}
 use Rattle.affine_expr.specs.Value.{value}
 use Rattle.affine_ast.specs.declared.types.Bound.TheVariants as bound
@@ -11,10 +11,7 @@ use Rattle.direct_meaning.specs.Turns.{turns}
 use Rattle.direct_meaning.specs.Direct.{plain, state_of, verdict_of}
 use Rattle.direct_meaning.specs.Work.{work}
 use Rattle.prompt_semantics.specs.Prompt.{prompt, prompt_verdict, prompt_slow, prompt_numbers}
-use Rattle.copy_emit.specs.Template.{input_body, staged_body}
-use Rattle.copy_emit.specs.FirstPlan.{window_place, window_extent, first_staged, other_letters}
-use Rattle.copy_emit.specs.FirstForm.{IsFirstForm}
-use Rattle.meaning_numbers.specs.Modules.{raise_loop, staged_raise, part_loop, staged_part, raise_part, raise, evens, operates, bounds, at_numbers, transfer, load_half, wait_for, start_again, store_slow, other_count, strided, deep, image, n, k}
+use Rattle.meaning_numbers.specs.Modules.{staged_raise, staged_part, raise_part, raise, evens, operates, bounds, at_numbers, transfer, load_half, wait_for, start_again, store_slow, other_count, strided, deep, image, n, k}
 
 -- at -7: `d0 floordiv 2` is -4, `d0 ceildiv 2` is -3, `d0 mod 2` is 1
 abbrev pub Quotients : Type 0
@@ -92,47 +89,15 @@ Strided = prompt_slow (prompt strided (image (zeros ∷ [])) (pos 300) 1048576) 
 abbrev pub Works : Type 0
 Works = (work deep ≡ 18446744073709551617) × (work (raise (pos 281474976710656)) ≡ 1125899906842625)
 
--- the template makes of the loop exactly these statements, with these names
-abbrev pub Template : Type 0
-Template = (input_body (raise_loop (pos 8)) ≡ (raise (pos 8)).body) × (staged_body (first_staged false (raise_loop (pos 8))) (raise_loop (pos 8)) ≡ staged_raise)
-
--- and the staged module has the same memory at its end, with 64 bytes of fast memory, whatever the filler
+-- with copies of both memrefs the memory at the end is the same, with 64 bytes of fast memory, whatever the filler
 abbrev pub StagedRaise : Type 0
 StagedRaise =
     (prompt_slow (prompt (record (raise (pos 8)) { body = staged_raise }) (image (ones ∷ zeros ∷ [])) (pos 99) 1048576) ≡ raised)
     × (prompt_numbers (prompt (record (raise (pos 8)) { body = staged_raise }) (image (ones ∷ zeros ∷ [])) (pos 99) 1048576) ≡ record { actions = 85; engine_steps = 0; peak = 64 })
 
--- the loop's module is of the first form, with names that begin with other letters
-abbrev pub RaiseIsFirst : Type 0
-RaiseIsFirst = IsFirstForm other_letters (raise (pos 8)) (raise_loop (pos 8))
-
--- the window of a memref of this size round a loop from `low` up to `high`: its place and its extent
-abbrev pub HasWindow : ℤ → ℤ → ℕ → ℕ → ℕ → Type 0
-HasWindow low high size place extent = (window_place low high size ≡ place) × (window_extent low high size ≡ extent)
-
--- a loop over a part; over the left edge; over the right one; beyond each; over more than all; over all; without a turn
-abbrev pub Windows : Type 0
-Windows = HasWindow (pos 5) (pos 8) 9 5 3
-    × HasWindow (negsuc 0) (pos 4) 64 0 5
-    × HasWindow (pos 7) (pos 12) 9 4 5
-    × HasWindow (negsuc 8) (negsuc 1) 9 0 7
-    × HasWindow (pos 20) (pos 23) 9 6 3
-    × HasWindow (negsuc 0) (pos 12) 9 0 9
-    × HasWindow (pos 0) (pos 9) 9 0 9
-    × HasWindow (pos 5) (pos 5) 9 5 0
-    × HasWindow (pos 7) (pos 2) 3 3 0
-
--- the template makes of the loop over a part exactly these statements
-abbrev pub WindowTemplate : Type 0
-WindowTemplate = (input_body part_loop ≡ raise_part.body) × (staged_body (first_staged false part_loop) part_loop ≡ staged_part)
-
--- and they raise the part, with 24 bytes of fast memory
+-- with copies of a part of each memref the part is raised, with 24 bytes of fast memory
 abbrev pub StagedPart : Type 0
 StagedPart =
     (prompt_slow (prompt (record raise_part { body = staged_part }) (image (ones ∷ zeros ∷ [])) (pos 99) 1048576)
     ≡ ones ++ (pos 0 ∷ pos 0 ∷ pos 4 ∷ pos 5 ∷ pos 6 ∷ pos 0 ∷ pos 0 ∷ pos 0 ∷ []))
     × (prompt_numbers (prompt (record raise_part { body = staged_part }) (image (ones ∷ zeros ∷ [])) (pos 99) 1048576) ≡ record { actions = 35; engine_steps = 0; peak = 24 })
-
--- a loop without a turn is left as it is
-abbrev pub NothingStaged : Type 0
-NothingStaged = staged_body (first_staged false (raise_loop (pos 0))) (raise_loop (pos 0)) ≡ (raise (pos 0)).body

@@ -1,7 +1,6 @@
 //! Worked numbers of the meanings: small modules whose values, memories and faults the definitions are computed on.
 //!
-//! Each function is a list of numbers; it does nothing. The crate stands on `direct_meaning`, `prompt_semantics` and
-//! `copy_emit`.
+//! Each function is a list of numbers; it does nothing. The crate stands on `direct_meaning` and `prompt_semantics`.
 #![tactic(auto)]
 
 ghost use Rattle.meaning_numbers.specs.Worked.{
@@ -17,13 +16,8 @@ ghost use Rattle.meaning_numbers.specs.Worked.{
   Faulted,
   Strided,
   Works,
-  Template,
   StagedRaise,
-  RaiseIsFirst,
-  Windows,
-  WindowTemplate,
   StagedPart,
-  NothingStaged,
 };
 
 /// Values of expressions, turns of loops, the direct meaning of small modules and their work.
@@ -39,21 +33,11 @@ pub fn direct_numbers()
     ensures works { Works }
 {}
 
-/// The prompt meaning of modules with one transfer, its end, its numbers and each fault; and a staged module, statement by
-/// statement and in its run.
+/// The prompt meaning of modules with one transfer, its end, its numbers and each fault; and of modules with copies of their memrefs.
 pub fn prompt_numbers()
     ensures waited { Waited }
     ensures faulted { Faulted }
     ensures strided { Strided }
-    ensures template { Template }
     ensures staged_raise { StagedRaise }
-    ensures raise_is_first { RaiseIsFirst }
-{}
-
-/// Windows of memrefs round a loop, and a loop over a part of its memrefs, staged: statement by statement and in its run.
-pub fn window_numbers()
-    ensures windows { Windows }
-    ensures window_template { WindowTemplate }
     ensures staged_part { StagedPart }
-    ensures nothing_staged { NothingStaged }
 {}

@@ -13,8 +13,8 @@ ghost use Rattle.normal_texts.specs.Texts.{IsNormal};
 ghost use Rattle.stage_laws.specs.Law.{IsStageOf};
 
 use affine_ast::Verified;
+use copy_emit::{number_names, stage_loops};
 use dma_emit::stage_dma;
-use loop_emit::{number_names, stage_loops};
 use nest_domain::Plan;
 use normal_modules::normal_module;
 use std::alloc::{AllocError, Global};

@@ -10,11 +10,8 @@ returns-clause-faulted c = numbers.faulted
 pub returns-clause-strided : goal.returns-clause-strided
 returns-clause-strided c = numbers.strided
 
-pub returns-clause-template : goal.returns-clause-template
-returns-clause-template c = numbers.template
-
 pub returns-clause-staged_raise : goal.returns-clause-staged_raise
 returns-clause-staged_raise c = numbers.staged_raise
 
-pub returns-clause-raise_is_first : goal.returns-clause-raise_is_first
-returns-clause-raise_is_first c = numbers.raise_is_first
+pub returns-clause-staged_part : goal.returns-clause-staged_part
+returns-clause-staged_part c = numbers.staged_part

@@ -1,9 +1,9 @@
-use Rattle.std.proofs.Common.{◌≤◌, length, sym, subst, arith}
+use Rattle.std.proofs.Common.{sym, subst}
 use Rattle.affine_grammar.specs.Spelling.{Spells}
-use Rattle.source_parts.specs.Parts.{text_part, image_part}
+use Rattle.source_parts.specs.Parts.{text_part}
 use Rattle.affine_driver.specs.declared.command.Command.TheVariants.{Check, Regions, Stage, Plain, Order}
 use Rattle.affine_driver.specs.Behaviour.{Makes, ComesTo}
-use Rattle.affine_driver.proofs.Refusals.{answered, comes_to, staged}
+use Rattle.affine_driver.proofs.Refusals.{answered, comes_to}
 use Rattle.affine_driver.proofs.answer.answer_of.Goals as goal
 
 pub returns-in-Check : goal.returns-in-Check
@@ -21,12 +21,8 @@ returns-in-Regions c =
 pub returns-in-Stage : goal.returns-in-Stage
 returns-in-Stage c =
     let input = c.in_ok-verified.verified.inner in
-    let within = c.split-parts.ensures.within in
-    let short = c.requires.short in
-    let fits : length c.split-parts.result.text.now ≤ 4194304 = omega (arith, within, short) in
     let spells : Spells (text_part c.args.source.now) input = subst (λ t. Spells t input) c.split-parts.ensures.text c.in_ok-verified.ensures.0 in
-    answered _ _ _ _ (λ o h. subst (λ k. ComesTo k c.args.source.now o) (sym c.in-Stage.is) (comes_to (Stage c.in-Stage.field-0) c.args.source.now input o spells c.in_ok-verified.ensures.1
-    (staged c.in-Stage.field-0 c.split-parts.result.text.now (image_part c.args.source.now) input fits c.in_ok-verified.ensures.0 o h))) c.staged.ensures
+    answered _ _ _ _ (λ o h. subst (λ k. ComesTo k c.args.source.now o) (sym c.in-Stage.is) (comes_to (Stage c.in-Stage.options) c.args.source.now input o spells c.in_ok-verified.ensures.1 h)) c.stage_output.ensures
 
 pub returns-in-Plain : goal.returns-in-Plain
 returns-in-Plain c =

@@ -12,7 +12,7 @@ returns-in_err-memory g c =
     let p = err_from_is_err_and c.from_residual.result c.from_residual.ensures.1 in
     let input = c.args.verified.now.inner in
     refused _ _ _ _ _ p.1 p.2
-    (without_image input c.args.text.now (λ memory. EndsWithin c.args.staged.module (verdict_of (plain input memory)) (Gives (IsBothOutput input memory))) _ c.in_err-memory.ensures)
+    (without_image input c.args.text.now (λ memory. EndsWithin c.args.staged.now.inner (verdict_of (plain input memory)) (Gives (IsBothOutput c.args.options.stage input memory))) _ c.in_err-memory.ensures)
 
 pub returns : goal.returns
 returns g c = answered _ _ _ _ (λ o h. inr (c.in_ok-memory.memory, (c.in_ok-memory.ensures, h))) c.both_from.ensures

@@ -1,7 +1,7 @@
 use Rattle.affine_driver.proofs.Endings.{Known, exact, one_output}
 use Rattle.affine_driver.proofs.laws.endings_are_exact.Goals as goal
 
-known : goal.After-lists_one → Known
+known : goal.After-one_stage → Known
 known c = record {
   texts = record {
     one_module = c.texts_are_read_exactly.ensures.one_module;
@@ -14,6 +14,7 @@ known c = record {
     both = c.image_texts_are_exact.ensures.not_both;
   };
   lists = c.lists_one.ensures;
+  stages = c.one_stage.ensures;
 }
 
 pub returns-clause-exact : goal.returns-clause-exact

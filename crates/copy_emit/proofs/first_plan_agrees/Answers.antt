@@ -1,5 +1,0 @@
-use Rattle.copy_emit.proofs.FirstStaged.{first_plan_agrees}
-use Rattle.copy_emit.proofs.first_plan_agrees.Goals as goal
-
-pub returns : goal.returns
-returns c = λ m l form room few memory fits filler. first_plan_agrees m l form room few memory fits filler

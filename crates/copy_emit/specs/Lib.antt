@@ -1,4 +1,0 @@
-pub mod Template
-pub mod FirstForm
-pub mod Law
-pub mod FirstPlan

@@ -1,4 +1,0 @@
-pub mod Plan
-pub mod Form
-pub mod Valid
-pub mod Law
